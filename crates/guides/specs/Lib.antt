@@ -1,0 +1,5 @@
+pub mod Meaning
+pub mod Labels
+pub mod Rules
+pub mod Lines
+pub mod Straight
