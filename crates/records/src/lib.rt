@@ -1,0 +1,38 @@
+// The records that the index works on, and what its calls answer.
+mod answer;
+mod outcome;
+mod record;
+
+pub use answer::Answer;
+pub use answer::AnswerClone;
+pub use answer::AnswerDebug;
+pub use answer::AnswerPartialEq;
+pub use answer::Damage;
+pub use answer::DamageDebug;
+pub use answer::DamageFromGuide;
+pub use answer::DamagePartialEq;
+pub use answer::Refusal;
+pub use answer::RefusalDebug;
+pub use answer::RefusalDisplay;
+pub use answer::RefusalFromDamage;
+pub use answer::RefusalFromGuide;
+pub use answer::RefusalPartialEq;
+pub use answer::Stepped;
+pub use answer::SteppedClone;
+pub use answer::SteppedDebug;
+pub use answer::SteppedPartialEq;
+pub use outcome::Outcome;
+pub use outcome::OutcomeClone;
+pub use outcome::first_phase;
+pub use outcome::go_on;
+pub use outcome::go_to;
+pub use outcome::start_over;
+pub use record::Phase;
+pub use record::Place;
+pub use record::PlaceClone;
+pub use record::Station;
+pub use record::StationClone;
+pub use record::Status;
+pub use record::Task;
+pub use record::TaskClone;
+pub use record::Work;
