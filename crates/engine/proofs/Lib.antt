@@ -1,0 +1,5 @@
+mod Called
+mod Made
+mod Mapped
+mod Opening
+mod Workers
