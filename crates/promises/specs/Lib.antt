@@ -1,0 +1,4 @@
+pub mod Books
+pub mod Truths
+pub mod Runs
+pub mod Promised
