@@ -1,0 +1,4 @@
+mod Cuts
+mod Same
+mod Within
+mod Values
