@@ -1,0 +1,3 @@
+mod Calling
+mod Lent
+mod Opens
