@@ -1,9 +1,5 @@
 mod Called
-mod Counted
-mod Listed
 mod Made
 mod Mapped
 mod Opening
-mod Settled
-mod Walked
 mod Workers

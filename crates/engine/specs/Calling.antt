@@ -3,7 +3,7 @@ use Rattle.std.specs.Prelude.{◌≡◌, ℕ, ◌<◌, Bool, true, false, cond, 
 use Rattle.std.specs.declared.cmp.Ordering.{Ordering}
 use Rattle.guides.specs.declared.answer.GuideRefusal.{GuideRefusal}
 use Rattle.guides.specs.Meaning.{Meaning, low, high}
-use Rattle.guides.specs.Rules.{clearing, Guiding}
+use Rattle.guides.specs.Rules.{clearing}
 use Rattle.records.specs.declared.answer.Damage.{Damage}
 use Rattle.records.specs.declared.answer.Refusal.{Refusal}
 use Rattle.records.specs.declared.answer.Refusal.TheVariants.{BadCount, Guide, NoStation, Busy, Idle, HoldsLock, Damaged}
@@ -128,11 +128,10 @@ module _ {K : Type 0} where
     abbrev pub stepping : Result (MadeStep K) Refusal
     stepping = at_station ss i step_by
 
-  -- The choices that the step may make.
-  module _ {G : Type 0} (guide : Guiding G) (g : G) (rank : K → K → Ordering) (choice : Choice) (ps : List (Place K)) where
+    -- The choices that the step may make.
     abbrev pub MayChooseBy : Option (Task K) → Type 0
     MayChooseBy None = Unit {0}
-    MayChooseBy (Some t) = MayChoose guide g rank ps t t.phase choice
+    MayChooseBy (Some t) = MayChoose rank i ps m t t.phase choice
 
   -- The step of this task may change the guide.
   abbrev pub may_change_guide : Option (Task K) → Bool
@@ -162,9 +161,9 @@ module _ {K : Type 0} where
 
 -- A step of station i answered r and turned places, stations and guide into those after it: some choices that are
 -- allowed give just that, and only ATTACH and DETACH touch the guide.
-pub record Steps {K G : Type 0} (guide : Guiding G) (rank : K → K → Ordering) (i : ℕ) (ps : List (Place K)) (ss : List (Station K)) (g : G)
+pub record Steps {K G : Type 0} (meaning : G → Meaning) (rank : K → K → Ordering) (i : ℕ) (ps : List (Place K)) (ss : List (Station K)) (g : G)
     (r : Result (Stepped K) Refusal) (ps' : List (Place K)) (ss' : List (Station K)) (g' : G) : Type 0 where
   pub choice : Choice
-  pub may : MayChooseBy guide g rank choice ps (task_at ss i)
-  pub does : MakesStep guide.meaning (stepping rank choice ps ss (guide.meaning g) i) ps ss g r ps' ss' g'
+  pub may : MayChooseBy rank choice ps ss (meaning g) i (task_at ss i)
+  pub does : MakesStep meaning (stepping rank choice ps ss (meaning g) i) ps ss g r ps' ss' g'
   pub keeps_guide : may_change_guide (task_at ss i) ≡ false → g' ≡ g

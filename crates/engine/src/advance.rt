@@ -1,12 +1,11 @@
 // One step of a station's work.
-ghost use Rattle.guides.specs.Rules.{by_its_answers};
 ghost use Rattle.engine.specs.Calling.{Steps};
 
 use crate::settle::{settle, task_of};
-use dispatch::follow_rule;
 use guides::Guide;
 use orders::Order;
 use records::{Place, Refusal, Station, Stepped};
+use rules::follow_rule;
 
 // One step of a station's work. NO STATION: there is no such station. IDLE: nothing is under way.
 // DAMAGED: the step needs a place number that is not among the places, or the guide refuses.
@@ -16,7 +15,7 @@ pub fn step<K: Order, G: Guide>(
     guide: &mut G,
     station: usize,
 ) -> Result<Stepped<K>, Refusal>
-    ensures { Steps (by_its_answers G.Guide.meaning G.Guide.starts G.Guide.besides G.Guide.mends) K.Order.rank station places.old stations.old guide.old result places.new stations.new guide.new }
+    ensures { Steps G.Guide.meaning K.Order.rank station places.old stations.old guide.old result places.new stations.new guide.new }
 {
     let Some(task) = task_of(stations, station)? else {
         return Err(Refusal::Idle);

@@ -1,15 +1,8 @@
 // The index: its calls on lent records. Each says exactly what it answers and what it leaves.
+#![tactic(auto)]
 mod advance;
 mod call;
-mod counting;
-mod listing;
-mod mending;
 mod settle;
-mod tally;
 
 pub use advance::step;
 pub use call::{begin, leave, open};
-pub use counting::counts;
-pub use listing::list;
-pub use mending::mend;
-pub use tally::Counts;

@@ -3,4 +3,3 @@ pub mod Labels
 pub mod Rules
 pub mod Lines
 pub mod Straight
-pub mod LineGuideLemmas

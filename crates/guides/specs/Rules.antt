@@ -4,8 +4,6 @@ use Rattle.guides.specs.declared.answer.Beside.{Beside}
 use Rattle.guides.specs.declared.answer.Beside.TheVariants.{Absent, End, Stands}
 use Rattle.guides.specs.declared.answer.GuideRefusal.{GuideRefusal}
 use Rattle.guides.specs.declared.answer.GuideRefusal.TheVariants.{SmallGuide, BadSpot, NotThere}
-use Rattle.guides.specs.declared.answer.Mended.{Mended}
-use Rattle.guides.specs.declared.answer.Mended.TheVariants.{Nothing}
 use Rattle.guides.specs.declared.answer.Side.{Side}
 use Rattle.guides.specs.declared.answer.Side.TheVariants.{Lower, Higher}
 use Rattle.guides.specs.Meaning.{Meaning, low, high, has, precedes, neighbours, with_after, without}
@@ -46,33 +44,3 @@ AnswersBeside xs place side Absent = has place xs ≡ false
 AnswersBeside xs place side End = has place xs ≡ true
 AnswersBeside xs place Lower (Stands found) = precedes found place xs ≡ true
 AnswersBeside xs place Higher (Stands found) = precedes place found xs ≡ true
-
--- A mend that finds nothing to mend, and leaves the guide as it is.
-abbrev pub NothingMended : {G : Type 0} → G → Mended → G → Type 0
-NothingMended before m after = (m ≡ Nothing) × (after ≡ before)
-
--- What is known of a guide: its meaning, which answers to start and to beside it may give, and what a mend may answer and
--- leave.
-pub record Guiding (G : Type 0) : Type 1 where
-  pub meaning : G → Meaning
-  pub MayStart : G → ℕ → Type 0
-  pub MayStand : G → ℕ → Side → Beside → Type 0
-  pub MayMend : G → Mended → G → Type 0
-
--- A guide that is known by its rules alone, so that its meaning stands for it.
-abbrev pub by_its_rules : Guiding Meaning
-by_its_rules = record {
-  meaning = λ m. m;
-  MayStart = λ m p. has p m.sequence ≡ true;
-  MayStand = λ m p side beside. AnswersBeside m.sequence p side beside;
-  MayMend = λ m answer after. after ≡ m;
-}
-
--- A guide whose answers are known.
-abbrev pub by_its_answers : {G : Type 0} → (G → Meaning) → (G → ℕ) → (G → ℕ → Side → Beside) → (G → Mended → G → Type 0) → Guiding G
-by_its_answers meaning starts besides mends = record {
-  meaning = meaning;
-  MayStart = λ g p. p ≡ starts g;
-  MayStand = λ g p side beside. beside ≡ besides g p side;
-  MayMend = mends;
-}

@@ -1,4 +1,3 @@
 mod Calling
 mod Lent
-mod Listing
 mod Opens

@@ -1,15 +1,12 @@
 // A book: the records and the guide that a script works on.
-ghost use Rattle.std.specs.Prelude.{◌≡◌, length, replicate, IfOk};
-ghost use Rattle.guides.specs.Rules.{by_its_answers};
+ghost use Rattle.std.specs.Prelude.{◌≡◌, replicate, IfOk};
 ghost use Rattle.engine.specs.Calling.{opening};
-ghost use Rattle.engine.specs.Contents.{listing};
-ghost use Rattle.play.specs.Booked.{places as places_of, new_places, new_stations, OpensBook, BeginsIn, RunsIn, LeavesIn, MendsIn, ListsKeys};
+ghost use Rattle.play.specs.Booked.{new_places, new_stations, OpensBook, BeginsIn, RunsIn, LeavesIn};
 
 use crate::running::run;
-use engine::{begin, leave, list, mend};
-use guides::{Guide, Mended};
+use engine::{begin, leave, open};
+use guides::Guide;
 use orders::Ingredient;
-use promises::open;
 use records::{Place, Refusal, Station, Status, Stepped, Work};
 use std::alloc::{AllocError, Global};
 
@@ -26,7 +23,7 @@ const TOO_MANY_PLACES: u32 = 1025;
 const TOO_MANY_STATIONS: u32 = 17;
 
 // A value, so many times.
-pub fn repeated<T: Copy>(heap: Global, value: T, count: usize) -> Result<Vec<T>, AllocError>
+pub fn repeated<T: Copy>(heap: Global, value: T, count: u32) -> Result<Vec<T>, AllocError>
     ensures { IfOk result (λ v. v.items ≡ replicate count value) }
 {
     let mut values = Vec::new(heap);
@@ -53,8 +50,8 @@ pub fn open_book<G: Guide + Drop>(
         status: Status::Free,
     };
     let station = Station { task: None };
-    let mut places = repeated(heap, place, places.min(TOO_MANY_PLACES) as usize)?;
-    let mut stations = repeated(heap, station, stations.min(TOO_MANY_STATIONS) as usize)?;
+    let mut places = repeated(heap, place, places.min(TOO_MANY_PLACES))?;
+    let mut stations = repeated(heap, station, stations.min(TOO_MANY_STATIONS))?;
     let mut guide = G::new();
     match open(places.as_mut_slice(), stations.as_mut_slice(), &mut guide) {
         Ok(()) => Ok(Ok(Book {
@@ -69,7 +66,7 @@ pub fn open_book<G: Guide + Drop>(
 impl<G: Guide> Book<G> {
     // Begins a work, with a key that first ignores.
     pub fn begin(&mut self, station: u32, work: Work, key: u32) -> Result<(), Refusal>
-        ensures { BeginsIn station work key _ (by_its_answers G.Guide.meaning G.Guide.starts G.Guide.besides G.Guide.mends) self.old result self.new }
+        ensures { BeginsIn station work key self.old result self.new }
     {
         begin(
             self.stations.as_mut_slice(),
@@ -81,7 +78,7 @@ impl<G: Guide> Book<G> {
 
     // Steps a station's work until an end, a wait, a refusal or 5,000 steps.
     pub fn run(&mut self, station: u32) -> Result<Stepped<Ingredient>, Refusal>
-        ensures { RunsIn station _ (by_its_answers G.Guide.meaning G.Guide.starts G.Guide.besides G.Guide.mends) self.old result self.new }
+        ensures { RunsIn G.Guide.meaning station self.old result self.new }
     {
         let worker = station as usize;
         run(
@@ -94,7 +91,7 @@ impl<G: Guide> Book<G> {
 
     // Ends a work without answer.
     pub fn leave(&mut self, station: u32) -> Result<(), Refusal>
-        ensures { LeavesIn station _ (by_its_answers G.Guide.meaning G.Guide.starts G.Guide.besides G.Guide.mends) self.old result self.new }
+        ensures { LeavesIn station self.old result self.new }
     {
         let leaver = station as usize;
         leave(
@@ -102,26 +99,5 @@ impl<G: Guide> Book<G> {
             self.stations.as_mut_slice(),
             leaver,
         )
-    }
-
-    // Lets the guide mend itself.
-    pub fn mend(&mut self) -> Mended
-        ensures { MendsIn _ (by_its_answers G.Guide.meaning G.Guide.starts G.Guide.besides G.Guide.mends) self.old result self.new }
-    {
-        mend(&mut self.guide)
-    }
-
-    // The keys of the book, in rising order.
-    pub fn list(&self, heap: Global) -> Result<Result<Vec<Ingredient>, Refusal>, AllocError>
-        ensures { IfOk result (ListsKeys (listing (places_of self.now) (length (places_of self.now)))) }
-    {
-        let mut keys = repeated(heap, Ingredient(0), self.places.len())?;
-        match list(self.places.as_slice(), keys.as_mut_slice()) {
-            Ok(count) => {
-                keys.truncate(count);
-                Ok(Ok(keys))
-            }
-            Err(refusal) => Ok(Err(refusal)),
-        }
     }
 }

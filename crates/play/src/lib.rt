@@ -1,8 +1,9 @@
 // Plays a script on a book.
+#![tactic(auto)]
 mod book;
 mod player;
 mod running;
 
 pub use book::{Book, open_book, repeated};
-pub use player::{Player, Reply};
+pub use player::Player;
 pub use running::{MOST_STEPS, run};

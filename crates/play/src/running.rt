@@ -1,5 +1,4 @@
 // A run of a station's work.
-ghost use Rattle.guides.specs.Rules.{by_its_answers};
 ghost use Rattle.play.specs.Running.{Runs};
 
 use engine::step;
@@ -17,7 +16,7 @@ pub fn run<K: Order, G: Guide>(
     guide: &mut G,
     station: usize,
 ) -> Result<Stepped<K>, Refusal>
-    ensures { Runs (by_its_answers G.Guide.meaning G.Guide.starts G.Guide.besides G.Guide.mends) K.Order.rank station places.old stations.old guide.old result places.new stations.new guide.new }
+    ensures { Runs G.Guide.meaning K.Order.rank station places.old stations.old guide.old result places.new stations.new guide.new }
 {
     for taken in 0..MOST_STEPS {
         match step(places, stations, guide, station)? {

@@ -8,7 +8,7 @@ use Rattle.guides.specs.declared.answer.Beside.TheVariants.{Absent, End, Stands}
 use Rattle.guides.specs.declared.answer.Side.{Side}
 use Rattle.guides.specs.declared.answer.Side.TheVariants.{Lower, Higher}
 use Rattle.guides.specs.Meaning.{Meaning, low, high, has}
-use Rattle.guides.specs.Rules.{AnswersBeside, by_its_rules}
+use Rattle.guides.specs.Rules.{AnswersBeside}
 use Rattle.records.specs.declared.answer.Answer.TheVariants.{Yes, No, Found, Missing, NoRoom}
 use Rattle.records.specs.declared.answer.Damage.{Damage}
 use Rattle.records.specs.declared.outcome.Outcome.{Outcome}
@@ -121,7 +121,7 @@ module _ {K : Type 0} (rank : K → K → Ordering) (i : ℕ) (ps : List (Place 
   refused : {P : Type 0} (e : Refusal) → Done (Err e) → P
   refused e d = never_ok e a (sym d.0)
 
-  by_rule : (t : Task K) → served ss i ≡ true → task_at ss i ≡ Some t → MayChooseBy by_its_rules m rank c ps (Some t)
+  by_rule : (t : Task K) → served ss i ≡ true → task_at ss i ≡ Some t → MayChooseBy rank c ps ss m i (Some t)
       → (turned : Result (Turn K) Damage) → rule_of rank i ps m t t.phase c ≡ turned → Done (step_after rank c ps ss m i t turned) → SeenSo
   by_rule t there is may (Err d) e done = refused (Damaged d) done
   by_rule t there is may (Ok turn) e done =
@@ -135,17 +135,17 @@ module _ {K : Type 0} (rank : K → K → Ordering) (i : ℕ) (ps : List (Place 
         settling = settles i t ss there turn.meaning turn.outcome turn.places a ps' ss' m' (retires_within way) (same_ok _ _ done.0) done.1 done.2 done.3;
       }
 
-  by_task : (x : Option (Task K)) → served ss i ≡ true → task_at ss i ≡ x → MayChooseBy by_its_rules m rank c ps x → Done (step_by rank c ps ss m i x) → SeenSo
+  by_task : (x : Option (Task K)) → served ss i ≡ true → task_at ss i ≡ x → MayChooseBy rank c ps ss m i x → Done (step_by rank c ps ss m i x) → SeenSo
   by_task None there is may done = refused Idle done
   by_task (Some t) there is may done = by_rule t there is may (rule_of rank i ps m t t.phase c) refl done
 
-  by_station : (b : Bool) → served ss i ≡ b → MayChooseBy by_its_rules m rank c ps (cond b (get_or ss i idle).task None)
+  by_station : (b : Bool) → served ss i ≡ b → MayChooseBy rank c ps ss m i (cond b (get_or ss i idle).task None)
       → Done (cond b (step_by rank c ps ss m i (get_or ss i idle).task) (Err NoStation)) → SeenSo
   by_station true there may done = by_task (get_or ss i idle).task there (ap (λ b. cond b (get_or ss i idle).task None) there) may done
   by_station false there may done = refused NoStation done
 
 pub accepted_step_made : {K : Type 0} (rank : K → K → Ordering) (i : ℕ) (ps : List (Place K)) (ss : List (Station K)) (m : Meaning) (a : Stepped K)
-    (ps' : List (Place K)) (ss' : List (Station K)) (m' : Meaning) → Steps by_its_rules rank i ps ss m (Ok a) ps' ss' m' → Made rank (sight ps ss m) i a (sight ps' ss' m')
+    (ps' : List (Place K)) (ss' : List (Station K)) (m' : Meaning) → Steps (λ x. x) rank i ps ss m (Ok a) ps' ss' m' → Made rank (sight ps ss m) i a (sight ps' ss' m')
 accepted_step_made rank i ps ss m a ps' ss' m' st =
     by_station rank i ps ss m a ps' ss' m' st.choice (served ss i) refl st.may st.does
 
@@ -156,5 +156,5 @@ refused_by ps ss m (Ok made) e ps' ss' m' d = never_ok e made.after.answer d.0
 refused_by ps ss m (Err r) e ps' ss' m' d = (d.1, d.2, d.3)
 
 pub refused_step_keeps : {K : Type 0} (rank : K → K → Ordering) (i : ℕ) (ps : List (Place K)) (ss : List (Station K)) (m : Meaning) (e : Refusal)
-    (ps' : List (Place K)) (ss' : List (Station K)) (m' : Meaning) → Steps by_its_rules rank i ps ss m (Err e) ps' ss' m' → (ps' ≡ ps) × (ss' ≡ ss) × (m' ≡ m)
+    (ps' : List (Place K)) (ss' : List (Station K)) (m' : Meaning) → Steps (λ x. x) rank i ps ss m (Err e) ps' ss' m' → (ps' ≡ ps) × (ss' ≡ ss) × (m' ≡ m)
 refused_step_keeps rank i ps ss m e ps' ss' m' st = refused_by ps ss m (stepping rank st.choice ps ss m i) e ps' ss' m' st.does

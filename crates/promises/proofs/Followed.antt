@@ -6,15 +6,13 @@ use Rattle.records.specs.declared.answer.Stepped.TheVariants.{Waits}
 use Rattle.records.specs.declared.record.Task.{Task}
 use Rattle.records.specs.declared.record.Work.TheVariants.{Look}
 use Rattle.promises.specs.Books.{Book}
-use Rattle.promises.specs.Promised.{UnderWay, NothingIsDamaged, IdleBooksAreTidy, StatusesAreTrue, SomeoneCanGoOn}
-use Rattle.promises.specs.Runs.{Run, Does, step, stepped}
+use Rattle.promises.specs.Promised.{UnderWay, OnlyOwnKeysChange, NothingIsDamaged, IdleBooksAreTidy, StatusesAreTrue, SomeoneCanGoOn}
+use Rattle.promises.specs.Runs.{Run, Does, next, step, stepped}
 use Rattle.promises.proofs.Laws.{Laws}
 use Rattle.promises.proofs.Sights.{sight_of}
 use Rattle.promises.proofs.Invariant.{Inv}
 use Rattle.promises.proofs.Listed.{keys_rise, list_refused_only_if_short, list_shows_the_keys}
-use Rattle.promises.proofs.Tidy.{idle_is_tidy}
-use Rattle.promises.proofs.Statuses.{status_is_true}
-use Rattle.promises.proofs.Counts.{counts_are_true}
+use Rattle.promises.proofs.Tidy.{status_is_true, idle_is_tidy}
 use Rattle.promises.proofs.Unrefused.{steps_accepted}
 use Rattle.promises.proofs.Waiting.{a_look_never_waits}
 use Rattle.promises.proofs.Progress.{someone_can_go_on}
@@ -32,7 +30,7 @@ module _ {K : Type 0} (rank : K → K → Ordering) (laws : Laws rank) (kept : (
   idle_books_are_tidy b r = idle_is_tidy rank laws b (kept b r)
 
   pub statuses_are_true : StatusesAreTrue rank
-  statuses_are_true = record { each = λ b r p x two is. status_is_true rank laws kept r p two x is; counts = λ b r. counts_are_true rank laws b (kept b r) }
+  statuses_are_true b r = status_is_true rank laws b (kept b r)
 
   pub one_can_go_on : SomeoneCanGoOn rank
   one_can_go_on b r = someone_can_go_on rank laws b (kept b r)

@@ -2,7 +2,7 @@
 -- the invariant of every book of a run.
 use Rattle.std.proofs.Common.{◌≡◌, ℕ, ◌+◌, ◌≤◌, Bool, true, false, cond, not, ◌&&◌, ◌⊎◌, List, [], ◌∷◌, is_some, Some, None, Ok, Option, Ordering, Less, Equal, Greater, sym, refl, ap, ◌∙◌, subst, inl, inr, true≢false, arith}
 use Rattle.std.proofs.lemmas.Bool.{and_parts}
-use Rattle.std.specs.Ordering.{is_eq}
+use Rattle.std.specs.Ordering.{is_eq, ordering_reverse}
 use Rattle.records.specs.declared.answer.Answer.{Answer}
 use Rattle.records.specs.declared.answer.Answer.TheVariants.{Yes}
 use Rattle.records.specs.declared.answer.Stepped.{Stepped}
@@ -27,7 +27,6 @@ use Rattle.promises.proofs.Passes.{retired_in_hand}
 use Rattle.promises.proofs.Hindsight.{none_works_opened}
 use Rattle.promises.proofs.Works.{Comes, call_comes, none_not_some}
 use Rattle.engine.specs.Settling.{with_await}
-use Rattle.promises.proofs.Sets.{itself, equal_only}
 use Rattle.promises.proofs.Doing.{done_of, is_linking, begins_undone, goes_alike, at_link, at_mark}
 
 -- The phases that change the keys are two.
@@ -59,7 +58,17 @@ which FirstNext h = absurd (true≢false (sym h))
 module _ {K : Type 0} (rank : K → K → Ordering) (laws : Laws rank) where
   -- ---- lists of the same keys
 
-  pub same_as_itself : (xs : List K) → same_keys rank xs xs ≡ true
+  itself : (o : Ordering) → o ≡ ordering_reverse o → o ≡ Equal
+  itself Less h = cc
+  itself Equal h = refl
+  itself Greater h = cc
+
+  equal_only : (o : Ordering) → is_eq o ≡ true → o ≡ Equal
+  equal_only Less h = cc
+  equal_only Equal h = refl
+  equal_only Greater h = cc
+
+  same_as_itself : (xs : List K) → same_keys rank xs xs ≡ true
   same_as_itself [] = refl
   same_as_itself (x ∷ xs) = ap (λ o. is_eq o && same_keys rank xs xs) (itself (rank x x) (laws.swaps x x)) ∙ same_as_itself xs
 
@@ -72,7 +81,7 @@ module _ {K : Type 0} (rank : K → K → Ordering) (laws : Laws rank) where
       ap (λ z. z ∷ xs) (laws.same x y (equal_only (rank x y) both.0)) ∙ ap (◌∷◌ y) (same_is_equal xs ys both.1)
 
   -- Keys that differ in one are not the same.
-  pub more_differs : (k : K) (xs ys : List K) → Adds k xs ys → (same_keys rank xs ys ≡ false) × (same_keys rank ys xs ≡ false)
+  more_differs : (k : K) (xs ys : List K) → Adds k xs ys → (same_keys rank xs ys ≡ false) × (same_keys rank ys xs ≡ false)
   more_differs k xs ys more = (by (same_keys rank xs ys) refl, by_back (same_keys rank ys xs) refl)
     where
       by : (b : Bool) → same_keys rank xs ys ≡ b → b ≡ false

@@ -5,7 +5,6 @@ use Rattle.std.proofs.lemmas.Bool.{cases_Bool, true≢false, false≢true, eqb-t
 use Rattle.std.proofs.lemmas.Bool.Decides.{nat_tests}
 use Rattle.guides.specs.declared.answer.Beside.TheVariants.{Absent, End}
 use Rattle.guides.specs.Meaning.{Meaning, low, high, has}
-use Rattle.guides.specs.Rules.{by_its_rules}
 use Rattle.records.specs.declared.answer.Answer.{Answer}
 use Rattle.records.specs.declared.answer.Stepped.TheVariants.{Moved, Ended}
 use Rattle.records.specs.declared.record.Phase.{Phase}
@@ -101,7 +100,7 @@ module _ {K : Type 0} (rank : K → K → Ordering) (laws : Laws rank) (ps : Lis
   plain : Choice
   plain = record { start = low; beside = Absent; free = None }
 
-  pub some_may : (phase : Phase) → (c : Choice) × MayChoose by_its_rules m rank ps t phase c
+  pub some_may : (phase : Phase) → (c : Choice) × MayChoose rank i ps m t phase c
   some_may Enter = (record { start = low; beside = Absent; free = None }, low_in_guide rank laws (sight ps ss m) inv)
   some_may Down =
       ⊎_elim (λ h. (record { start = low; beside = End; free = None }, h)) (λ h. (record { start = low; beside = Absent; free = None }, h)) (cases_Bool (has t.at m.sequence))
@@ -146,7 +145,7 @@ module _ {K : Type 0} (rank : K → K → Ordering) (laws : Laws rank) (b : Book
       moves_on (mended m) b' d = absurd d
       moves_on (listed r after) b' d = absurd d
 
-      by_turn : (c : Choice) → MayChoose by_its_rules b.guide rank b.places t t.phase c → Turned b.guide (changes_guide t.phase) (rule_of rank i b.places b.guide t t.phase c)
+      by_turn : (c : Choice) → MayChoose rank i b.places b.guide t t.phase c → Turned b.guide (changes_guide t.phase) (rule_of rank i b.places b.guide t t.phase c)
           → CanGoOn rank b i
       by_turn c may turned = record {
         task = t;
@@ -156,7 +155,7 @@ module _ {K : Type 0} (rank : K → K → Ordering) (laws : Laws rank) (b : Book
         after = record { places = after.places; stations = after.stations; guide = turned.turn.meaning };
         possible = record {
           choice = c;
-          may = subst (λ o. MayChooseBy by_its_rules b.guide rank c b.places o) (sym is) may;
+          may = subst (λ o. MayChooseBy rank c b.places b.stations b.guide i o) (sym is) may;
           does = subst
               (λ told. MakesStep (λ m. m) told b.places b.stations b.guide (Ok after.answer) after.places after.stations turned.turn.meaning)
               (sym (step_accepted rank laws b.places b.stations b.guide inv i t is c turned.turn turned.is)) (refl, refl, refl, refl);

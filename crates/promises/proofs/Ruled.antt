@@ -7,7 +7,7 @@ use Rattle.guides.specs.declared.answer.Beside.TheVariants.{Absent, End, Stands}
 use Rattle.guides.specs.declared.answer.Side.{Side}
 use Rattle.guides.specs.declared.answer.Side.TheVariants.{Lower, Higher}
 use Rattle.guides.specs.Meaning.{Meaning, low, high, has}
-use Rattle.guides.specs.Rules.{AnswersBeside, by_its_rules}
+use Rattle.guides.specs.Rules.{AnswersBeside}
 use Rattle.records.specs.declared.answer.Answer.TheVariants.{Yes, No, Found, Missing, NoRoom}
 use Rattle.records.specs.declared.answer.Damage.{Damage}
 use Rattle.records.specs.declared.outcome.Outcome.{Outcome}
@@ -43,7 +43,7 @@ module _ {K : Type 0} (rank : K → K → Ordering) (me : ℕ) (ps : List (Place
   wrote_it : (told : Result (Ruled K) Damage) → writes ps m told ≡ Ok turn → Wrote rank me ps ss m t turn.outcome seen_after told
   wrote_it told e = let w = wrote ps ss m told turn e in record { ruled = w.0; tells = w.1; outcome = w.2; places = w.3 }
 
-  pub goes_a_way : (phase : Phase) → t.phase ≡ phase → (c : Choice) → MayChoose by_its_rules m rank ps t phase c → rule_of rank me ps m t phase c ≡ Ok turn → It
+  pub goes_a_way : (phase : Phase) → t.phase ≡ phase → (c : Choice) → MayChoose rank me ps m t phase c → rule_of rank me ps m t phase c ≡ Ok turn → It
   goes_a_way Enter is c may e =
       let r = read ps ss m (Ok (enter c.start t)) turn e in
       Way.enters is c.start may (sym (same_ok _ _ r.0)) r.1

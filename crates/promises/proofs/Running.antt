@@ -3,7 +3,6 @@ use Rattle.std.proofs.Common.{◌≡◌, ℕ, ◌+◌, ◌<◌, ◌≤◌, Bool,
 use Rattle.std.proofs.lemmas.Bool.{eqb-true, eqb-false, eq-eqb, ne_eqb, or_left, or_right, or_cases, and_parts, ltb-true}
 use Rattle.std.proofs.lemmas.Bool.Decides.{nat_tests}
 use Rattle.guides.specs.Meaning.{low, high, has}
-use Rattle.guides.specs.Rules.{by_its_rules}
 use Rattle.records.specs.declared.record.Phase.{Phase}
 use Rattle.records.specs.declared.record.Phase.TheVariants.{Enter, Down, Check, Back, On, Seek, Lock, Valid, Take, Link, LinkBack, Attach, ReleaseNew, PutEnd, TakeVictim, Mark, UnlinkBack, Unlink, Detach, ReleaseVictim, StrikeEnd, First, FirstNext}
 use Rattle.records.specs.declared.record.Status.{Status}
@@ -46,7 +45,7 @@ module _ {K : Type 0} (rank : K → K → Ordering) (laws : Laws rank) where
       subst (λ x. Inv rank (sight x ss' m')) (sym p) (subst (λ x. Inv rank (sight ps x m')) (sym q) (subst (λ x. Inv rank (sight ps ss x)) (sym r) inv))
 
   steps_keep : (ps : List (Place K)) (ss : List (Station K)) (m : Meaning) (i : ℕ) (r : Result (Stepped K) Refusal) (ps' : List (Place K)) (ss' : List (Station K)) (m' : Meaning)
-      → Inv rank (sight ps ss m) → Steps by_its_rules rank i ps ss m r ps' ss' m' → Inv rank (sight ps' ss' m')
+      → Inv rank (sight ps ss m) → Steps (λ x. x) rank i ps ss m r ps' ss' m' → Inv rank (sight ps' ss' m')
   steps_keep ps ss m i (Ok a) ps' ss' m' inv st =
       step_keeps rank laws (sight ps ss m) inv (stationed ss) i a (sight ps' ss' m') (accepted_step_made rank i ps ss m a ps' ss' m' st)
   steps_keep ps ss m i (Err e) ps' ss' m' inv st =

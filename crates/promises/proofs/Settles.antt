@@ -20,7 +20,7 @@ use Rattle.records.specs.declared.record.Task.{Task}
 use Rattle.records.specs.declared.record.Work.{Work}
 use Rattle.records.specs.declared.record.Work.TheVariants.{Put, Strike, Look, First as FirstWork, After}
 use Rattle.std.specs.List.{slice_get, range_with_len}
-use Rattle.std.proofs.lemmas.List.{length_set, length-map, get_or_past}
+use Rattle.std.proofs.lemmas.List.{length-set, length-map, get_or_past}
 use Rattle.std.proofs.lemmas.List.FromFn.{length-map-range_with_len, get_or-map-range_with_len}
 use Rattle.std.proofs.lemmas.Option.{slice_get_get_or}
 use Rattle.records.specs.declared.answer.Answer.{Answer}

@@ -1,12 +1,13 @@
--- That a book with no work under way is tidy, and which works come to which phases. Assumes the laws of the order and what
--- holds between calls.
-use Rattle.std.proofs.Common.{◌≡◌, ℕ, suc, Bool, true, false, not, ◌&&◌, ◌||◌, eqb, leb, List, [], ◌∷◌, ◌++◌, get_or, is_some, Some, None, Option, Ordering, sym, refl, ap, ◌∙◌, arith}
+-- That every place has the status that is true of it, and that a book with no work under way is tidy. Assumes the laws of
+-- the order and what holds between calls.
+use Rattle.std.proofs.Common.{◌≡◌, ℕ, suc, ◌≤◌, Bool, true, false, not, ◌&&◌, ◌||◌, eqb, leb, List, [], ◌∷◌, ◌++◌, get_or, is_some, Some, None, Option, Ordering, sym, refl, ap, ◌∙◌, arith}
 use Rattle.std.proofs.lemmas.Bool.{true≢false, false≢true, eqb-true, eq-eqb, and_parts}
 use Rattle.std.proofs.lemmas.Bool.Decides.{nat_tests}
 use Rattle.std.specs.List.{slice_get}
 use Rattle.guides.specs.Meaning.{low, high}
 use Rattle.records.specs.declared.record.Phase.{Phase}
 use Rattle.records.specs.declared.record.Phase.TheVariants.{Enter, Down, Check, Back, On, Seek, Lock, Valid, Take, Link, LinkBack, Attach, ReleaseNew, PutEnd, TakeVictim, Mark, UnlinkBack, Unlink, Detach, ReleaseVictim, StrikeEnd, First, FirstNext}
+use Rattle.records.specs.declared.record.Place.{Place}
 use Rattle.records.specs.declared.record.Status.{Status}
 use Rattle.records.specs.declared.record.Status.TheVariants.{Free, InHand, Chained, Retired}
 use Rattle.records.specs.declared.record.Task.{Task}
@@ -16,12 +17,12 @@ use Rattle.engine.specs.Calling.{locked_by}
 use Rattle.engine.specs.Contents.{field_of, next_of, chain}
 use Rattle.engine.specs.Settling.{anyone}
 use Rattle.promises.specs.Books.{Book, work_at}
-use Rattle.promises.specs.Promised.{is_change, is_retired, IsTidy}
+use Rattle.promises.specs.Promised.{is_change, is_retired, is_chained, IsTidy, StatusIsTrue}
 use Rattle.promises.specs.Runs.{works_in}
 use Rattle.promises.proofs.Laws.{Laws}
 use Rattle.promises.proofs.Sights.{Sight, sight_of}
 use Rattle.promises.proofs.Invariant.{Inv, rung, group, fits, is_handing, is_hiding, is_detaching, holds, other_in, holder_in, is_awaited, chained, shown}
-use Rattle.promises.proofs.Chains.{Walks, chain_walks, rising_same, whole_rises, whole_has}
+use Rattle.promises.proofs.Chains.{Walks, chain_walks, chain_has, rising_same, whole_rises, whole_has}
 
 -- ---- which works come to which phases
 
@@ -70,10 +71,37 @@ other_found f (Some t) p h =
     let both = and_parts (f (rung t.phase)) (eqb t.other p) h in
     (t, refl, both.0, eqb-true t.other p both.1)
 
-pub anyone_found : (w : List Bool) → anyone w ≡ true → (i : ℕ) × (slice_get w i ≡ Some true) × (get_or w i false ≡ true)
+anyone_found : (w : List Bool) → anyone w ≡ true → (i : ℕ) × (slice_get w i ≡ Some true) × (get_or w i false ≡ true)
 anyone_found [] h = absurd (false≢true h)
 anyone_found (true ∷ w) h = (0, refl, refl)
 anyone_found (false ∷ w) h = let rest = anyone_found w h in (suc rest.0, rest.1, rest.2)
+
+awaited_works : {K : Type 0} (o : Option (Task K)) → is_awaited o ≡ true → is_some o ≡ true
+awaited_works None h = h
+awaited_works (Some t) h = refl
+
+module _ {K : Type 0} (rank : K → K → Ordering) (laws : Laws rank) (b : Book K) (inv : Inv rank (sight_of b)) where
+  pub status_is_true : (p : ℕ) (x : Place K) → 2 ≤ p → slice_get b.places p ≡ Some x → StatusIsTrue rank b p x
+  status_is_true p x two is = record {
+    chained = sym (ap is_chained seen) ∙ sym (chain_has rank laws b.places b.stations b.guide inv p two);
+    waits_for_workers = λ waits e.
+        let r = inv.rests p waits (seen ∙ e) in
+        let found = anyone_found waits r.1 in
+        (found.0, found.1, awaited_works (work_at b found.0) (inv.awaits p waits (seen ∙ e) found.0 found.2));
+    in_hand = λ e.
+        let h = inv.hands p (seen ∙ e) in
+        let found = other_found is_handing (work_at b h.0) p h.1 in (
+          h.0,
+          found.0,
+          found.1,
+          found.3,
+          late_changes found.0.work (group found.0.phase) (inv.fit h.0 found.0 found.1)
+              (holding_is_late found.0.phase (handing_holds (rung found.0.phase) found.2)),
+        );
+  }
+    where
+      seen : (sight_of b).status p ≡ x.status
+      seen = ap (field_of Free (λ y. y.status)) is
 
 -- ---- nobody works
 

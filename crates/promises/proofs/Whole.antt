@@ -21,7 +21,7 @@ use Rattle.promises.proofs.Looks.{looks_end}
 use Rattle.promises.proofs.Followed.{nothing_is_damaged, idle_books_are_tidy, statuses_are_true, one_can_go_on}
 
 module _ {K : Type 0} (rank : K → K → Ordering) (laws : Laws rank) (inv : (b : Book K) → Run rank b → Inv rank (sight_of b)) where
-  pub shows : (b : Book K) → Run rank b → ShowsKeys b
+  shows : (b : Book K) → Run rank b → ShowsKeys b
   shows b r = record {
     found = λ k h. let kept = held_is_kept rank laws b.places b.stations b.guide (inv b r) k h in (kept.place, kept.on, kept.unmarked, kept.stands);
     held = λ p k on un is. kept_is_held rank laws b.places b.stations b.guide (inv b r) k (record { place = p; on = on; unmarked = un; stands = is });

@@ -24,7 +24,7 @@ use Rattle.guides.specs.declared.answer.GuideRefusal.TheVariants.{BadSpot, NotTh
 use Rattle.guides.specs.Meaning.{neighbours, with_after, without}
 use Rattle.guides.specs.Rules.{attaching, detaching}
 use Rattle.guides.proofs.Sequences.{attached, detached}
-use Rattle.std.proofs.lemmas.List.{length_set}
+use Rattle.std.proofs.lemmas.List.{length-set}
 use Rattle.records.specs.declared.answer.Damage.TheVariants.{Guide}
 use Rattle.records.specs.declared.record.Status.{Status}
 use Rattle.records.specs.declared.record.Status.TheVariants.{Free, InHand, Chained, Retired}
@@ -145,7 +145,7 @@ module _ {K : Type 0} (rank : K → K → Ordering) (me : ℕ) (ps : List (Place
         places = written t.key t.other (with_status Chained) (written t.key t.at (with_next t.other) ps);
       })) w.ruled n.1 in
       let d = did _ w _ l.1 in
-      let longer : t.other < length (written t.key t.at (with_next t.other) ps) = simp length_set l.0 in
+      let longer : t.other < length (written t.key t.at (with_next t.other) ps) = simp length-set l.0 in
       Way.links is d.0
       (d.1 ∙ sees_status t.key (written t.key t.at (with_next t.other) ps) ss m t.other longer Chained
       ∙ ap (status_put t.other Chained) (sees_next t.key ps ss m t.at n.0 t.other))
@@ -229,7 +229,7 @@ module _ {K : Type 0} (rank : K → K → Ordering) (me : ℕ) (ps : List (Place
         places = written t.key t.other (with_status InHand) (written t.key t.at (with_next victim.next) ps);
       })) w.ruled n.1 in
       let d = did _ w _ l.1 in
-      let longer : t.other < length (written t.key t.at (with_next other.next) ps) = simp length_set l.0 in
+      let longer : t.other < length (written t.key t.at (with_next other.next) ps) = simp length-set l.0 in
       let sees = next_seen ps ss m t.key t.other l.0 in
       Way.unlinks is d.0
       (d.1 ∙ sees_status t.key (written t.key t.at (with_next other.next) ps) ss m t.other longer InHand

@@ -1,7 +1,7 @@
 -- That a write of one field of one place, and of one station, is seen as just that. Assumes nothing.
 use Rattle.std.proofs.Common.{◌≡◌, ℕ, zero, suc, ◌<◌, ◌≤◌, Bool, true, false, cond, ◌&&◌, eqb, ltb, List, [], ◌∷◌, map, length, get_or, set, Some, None, Option, sym, refl, ap, ◌∙◌, arith}
 use mathlib.Core.Path.{fun_ext}
-use Rattle.std.proofs.lemmas.List.{length_set, get_or-set_same, get_or-set_other}
+use Rattle.std.proofs.lemmas.List.{length-set, get_or-set_same, get_or-set_other}
 use Rattle.std.proofs.lemmas.Bool.{cond_true, cond_false, eqb-true, and_parts}
 use Rattle.std.proofs.lemmas.Bool.Decides.{nat_tests}
 use Rattle.std.specs.List.{slice_get}
@@ -48,7 +48,7 @@ module _ {K : Type 0} (k : K) (ps : List (Place K)) (ss : List (Station K)) (m :
 
   pub sees_next : (n : ℕ) → sight (written k p (with_next n) ps) ss m ≡ next_put p n (sight ps ss m)
   sees_next n = alike _ _ record {
-    size = length_set ps p (with_next n (place k ps p));
+    size = length-set ps p (with_next n (place k ps p));
     spot = sees_spot (with_next n (place k ps p)) refl;
     next = λ q. field_set low (λ y. y.next) ps p q (with_next n (place k ps p)) h;
     prev = λ q. field_kept low (λ y. y.prev) k ps p q (with_next n (place k ps p)) h refl;
@@ -61,7 +61,7 @@ module _ {K : Type 0} (k : K) (ps : List (Place K)) (ss : List (Station K)) (m :
 
   pub sees_prev : (n : ℕ) → sight (written k p (with_prev n) ps) ss m ≡ prev_put p n (sight ps ss m)
   sees_prev n = alike _ _ record {
-    size = length_set ps p (with_prev n (place k ps p));
+    size = length-set ps p (with_prev n (place k ps p));
     spot = sees_spot (with_prev n (place k ps p)) refl;
     next = λ q. field_kept low (λ y. y.next) k ps p q (with_prev n (place k ps p)) h refl;
     prev = λ q. field_set low (λ y. y.prev) ps p q (with_prev n (place k ps p)) h;
@@ -74,7 +74,7 @@ module _ {K : Type 0} (k : K) (ps : List (Place K)) (ss : List (Station K)) (m :
 
   pub sees_mark : sight (written k p with_mark ps) ss m ≡ mark_put p (sight ps ss m)
   sees_mark = alike _ _ record {
-    size = length_set ps p (with_mark (place k ps p));
+    size = length-set ps p (with_mark (place k ps p));
     spot = sees_spot (with_mark (place k ps p)) refl;
     next = λ q. field_kept low (λ y. y.next) k ps p q (with_mark (place k ps p)) h refl;
     prev = λ q. field_kept low (λ y. y.prev) k ps p q (with_mark (place k ps p)) h refl;
@@ -87,7 +87,7 @@ module _ {K : Type 0} (k : K) (ps : List (Place K)) (ss : List (Station K)) (m :
 
   pub sees_lock : (l : Option ℕ) → sight (written k p (with_lock l) ps) ss m ≡ lock_put p l (sight ps ss m)
   sees_lock l = alike _ _ record {
-    size = length_set ps p (with_lock l (place k ps p));
+    size = length-set ps p (with_lock l (place k ps p));
     spot = sees_spot (with_lock l (place k ps p)) refl;
     next = λ q. field_kept low (λ y. y.next) k ps p q (with_lock l (place k ps p)) h refl;
     prev = λ q. field_kept low (λ y. y.prev) k ps p q (with_lock l (place k ps p)) h refl;
@@ -100,7 +100,7 @@ module _ {K : Type 0} (k : K) (ps : List (Place K)) (ss : List (Station K)) (m :
 
   pub sees_status : (x : Status) → sight (written k p (with_status x) ps) ss m ≡ status_put p x (sight ps ss m)
   sees_status x = alike _ _ record {
-    size = length_set ps p (with_status x (place k ps p));
+    size = length-set ps p (with_status x (place k ps p));
     spot = sees_spot (with_status x (place k ps p)) refl;
     next = λ q. field_kept low (λ y. y.next) k ps p q (with_status x (place k ps p)) h refl;
     prev = λ q. field_kept low (λ y. y.prev) k ps p q (with_status x (place k ps p)) h refl;
@@ -117,7 +117,7 @@ module _ {K : Type 0} (k : K) (ps : List (Place K)) (ss : List (Station K)) (m :
 
   pub sees_filled : (x : Place K) → sight (set ps p x) ss m ≡ filled p x (sight ps ss m)
   sees_filled x = alike _ _ record {
-    size = length_set ps p x;
+    size = length-set ps p x;
     spot = λ q. ap (own_spot q) (field_set top (λ y. exact y.key) ps p q x h) ∙ own_cond q (eqb p q) refl _ _;
     next = λ q. field_set low (λ y. y.next) ps p q x h;
     prev = λ q. field_set low (λ y. y.prev) ps p q x h;
@@ -134,7 +134,7 @@ module _ {K : Type 0} (ps : List (Place K)) (ss : List (Station K)) (m : Meaning
   inside = grind (arith, nat_tests)
 
   same_served : (x : Station K) (j : ℕ) → served (set ss i x) j ≡ served ss j
-  same_served x j = ap (λ n. ltb j n && ltb j 16) (length_set ss i x)
+  same_served x j = ap (λ n. ltb j n && ltb j 16) (length-set ss i x)
 
   task_same : (x : Station K) → task_at (set ss i x) i ≡ x.task
   task_same x =

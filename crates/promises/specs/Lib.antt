@@ -2,6 +2,3 @@ pub mod Books
 pub mod Truths
 pub mod Runs
 pub mod Promised
-pub mod Reached
-pub mod Made
-pub mod Alone

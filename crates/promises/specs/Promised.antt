@@ -1,5 +1,5 @@
 -- The promises of the index: what holds of every run, for an order of the keys. Assumes nothing.
-use Rattle.std.specs.Prelude.{◌≡◌, ℕ, ◌+◌, ◌-◌, ◌*◌, ◌^◌, ◌<◌, ◌≤◌, min, Bool, true, false, ◌⊎◌, ◌↔◌, List, [], ◌∷◌, ◌++◌, length, drop, Some, None, Ok, Err, slice_index_or}
+use Rattle.std.specs.Prelude.{◌≡◌, ℕ, ◌+◌, ◌-◌, ◌*◌, ◌^◌, ◌<◌, ◌≤◌, min, Bool, true, false, ◌||◌, eqb, ◌⊎◌, List, [], ◌∷◌, ◌++◌, length, drop, Some, None, Ok, Err, Option, Result}
 use Rattle.std.specs.declared.cmp.Ordering.{Ordering}
 use Rattle.std.specs.List.{slice_get}
 use Rattle.guides.specs.Meaning.{low, high, has}
@@ -7,19 +7,18 @@ use Rattle.records.specs.declared.answer.Answer.{Answer}
 use Rattle.records.specs.declared.answer.Answer.TheVariants.{Yes}
 use Rattle.records.specs.declared.answer.Refusal.{Refusal}
 use Rattle.records.specs.declared.answer.Refusal.TheVariants.{ShortList}
+use Rattle.records.specs.declared.answer.Stepped.{Stepped}
 use Rattle.records.specs.declared.answer.Stepped.TheVariants.{Moved, Waits, Ended}
 use Rattle.records.specs.declared.record.Place.{Place}
-use Rattle.records.specs.declared.record.Status.TheVariants.{Retired}
+use Rattle.records.specs.declared.record.Status.{Status}
+use Rattle.records.specs.declared.record.Status.TheVariants.{Free, InHand, Chained, Retired}
 use Rattle.records.specs.declared.record.Task.{Task}
 use Rattle.records.specs.declared.record.Work.{Work}
 use Rattle.records.specs.declared.record.Work.TheVariants.{Put, Strike, Look, First, After}
-use Rattle.rules.specs.Putting.{is_free}
 use Rattle.engine.specs.Contents.{chain}
-pub use Rattle.engine.specs.Counting.{is_in_hand, is_chained, is_retired}
-use Rattle.engine.specs.Counting.{free_count, in_hand_count, chained_count, retired_count}
 use Rattle.promises.specs.Books.{Book, keys, work_at}
-use Rattle.promises.specs.Truths.{Adds, TakesAway, Rises, TrueOf}
-use Rattle.promises.specs.Runs.{Call, Reply, Does, Run, works_in, since, given_steps, changed_times, changes_now, retired_during, step, list, stepped, listed}
+use Rattle.promises.specs.Truths.{Holds, Adds, TakesAway, Rises, TrueOf}
+use Rattle.promises.specs.Runs.{Call, Reply, Does, Run, works_in, since, given_steps, changed_times, changes_now, step, list, stepped, listed}
 
 -- Puts and strikes change the book and may wait; the other works only read.
 abbrev pub is_change : Work → Bool
@@ -32,6 +31,19 @@ is_change After = false
 -- The answer is a yes to a put or a strike.
 abbrev pub IsChangeDone : {K : Type 0} → Work → Answer K → Type 0
 IsChangeDone work a = (is_change work ≡ true) × (a ≡ Yes)
+
+-- The number of places of one status.
+abbrev pub is_retired : Status → Bool
+is_retired Free = false
+is_retired InHand = false
+is_retired Chained = false
+is_retired (Retired waits) = true
+
+abbrev pub is_chained : Status → Bool
+is_chained Free = false
+is_chained InHand = false
+is_chained Chained = true
+is_chained (Retired waits) = false
 
 module _ {K : Type 0} (rank : K → K → Ordering) where
   -- Station i has the work t under way.
@@ -116,41 +128,15 @@ module _ {K : Type 0} (rank : K → K → Ordering) where
   abbrev pub IdleBooksAreTidy : Type 0
   IdleBooksAreTidy = (b : Book K) (r : Run rank b) → ((i : ℕ) → works_in rank b i ≡ false) → IsTidy b
 
-  -- 9. Every place from 2 on is exactly one of free, in hand, chained and retired, and the status that is stored is the true
-  -- one. In hand is a place that a put has taken and not yet linked, or a strike has unlinked and not yet retired: a put or
-  -- a strike under way has it as its other place, and it is not on the chain.
-  pub record InHands (b : Book K) (p i : ℕ) (t : Task K) : Type 0 where
-    pub under_way : UnderWay b i t
-    pub changes : is_change t.work ≡ true
-    pub other : t.other ≡ p
-    pub off_chain : has p (chain b.places) ≡ false
-
-  -- In somebody's hands.
-  abbrev pub IsInHand : Book K → ℕ → Type 0
-  IsInHand b p = (i : ℕ) × (t : Task K) × InHands b p i t
-
-  -- Retired while a work that is still under way was under way.
-  abbrev pub IsRetired : {b : Book K} → Run rank b → ℕ → Type 0
-  IsRetired r p = (i : ℕ) × (retired_during rank r p i ≡ true)
-
-  pub record StatusIsTrue {b : Book K} (r : Run rank b) (p : ℕ) (x : Place K) : Type 0 where
+  -- 9. Every place from 2 on has a status that is true of it: it is chained exactly if it is on the chain, in hand only while a
+  -- put or a strike under way has it as its other place, and retired only while it waits for a station at work.
+  pub record StatusIsTrue (b : Book K) (p : ℕ) (x : Place K) : Type 0 where
     pub chained : is_chained x.status ≡ has p (chain b.places)
-    pub in_hand : (is_in_hand x.status ≡ true) ↔ IsInHand b p
-    pub retired : (is_retired x.status ≡ true) ↔ IsRetired r p
-    -- free is what is none of the three
-    pub free : (is_free x.status ≡ true) ↔ ((has p (chain b.places) ≡ false) × (IsInHand b p → ⊥) × (IsRetired r p → ⊥))
-    -- a retired place waits for the works during which it was retired and for no other, and there is one
-    pub waits_exactly : (waits : List Bool) → x.status ≡ Retired waits → (i : ℕ) → slice_index_or waits i false ≡ retired_during rank r p i
     pub waits_for_workers : (waits : List Bool) → x.status ≡ Retired waits → (i : ℕ) × (slice_get waits i ≡ Some true) × (works_in rank b i ≡ true)
+    pub in_hand : x.status ≡ InHand → (i : ℕ) × (t : Task K) × UnderWay b i t × (t.other ≡ p) × (is_change t.work ≡ true)
 
-  -- The four counts, taken over all places but Low and High, add up; and as many are chained as the chain has places.
-  pub record CountsAreTrue (b : Book K) : Type 0 where
-    pub add_up : free_count b.places + in_hand_count b.places + chained_count b.places + retired_count b.places ≡ length b.places - 2
-    pub chained : chained_count b.places ≡ length (chain b.places)
-
-  pub record StatusesAreTrue : Type 0 where
-    pub each : (b : Book K) (r : Run rank b) (p : ℕ) (x : Place K) → 2 ≤ p → slice_get b.places p ≡ Some x → StatusIsTrue r p x
-    pub counts : (b : Book K) (r : Run rank b) → CountsAreTrue b
+  abbrev pub StatusesAreTrue : Type 0
+  StatusesAreTrue = (b : Book K) (r : Run rank b) (p : ℕ) (x : Place K) → 2 ≤ p → slice_get b.places p ≡ Some x → StatusIsTrue b p x
 
   -- All the promises.
   pub record Promises : Type 0 where

@@ -1,6 +1,13 @@
-// Opening a book, and what holds of every run of calls on it.
-mod opening;
-mod reached;
+// The promises of the index, proved over every run of its calls.
+#![tactic(auto)]
+ghost use Rattle.std.specs.Prelude.{◌≡◌, true};
+ghost use Rattle.promises.specs.Promised.{Promises};
 
-pub use opening::open;
-pub use reached::every_rule_is_reached;
+use orders::Order;
+
+// True, for every kind of key with a lawful order: its contract says that the promises hold of every run.
+pub fn are_kept<K: Order>() -> bool
+    ensures { (result ≡ true) × Promises K.Order.rank }
+{
+    true
+}

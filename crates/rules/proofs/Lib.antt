@@ -1,1 +1,3 @@
+mod Answerable
 mod Downs
+mod Turning

@@ -7,6 +7,7 @@ use Rattle.guides.specs.declared.answer.Beside.TheVariants.{Absent, End, Stands}
 use Rattle.guides.specs.declared.answer.Side.{Side}
 use Rattle.guides.specs.declared.answer.Side.TheVariants.{Lower, Higher}
 use Rattle.guides.specs.Meaning.{low}
+use Rattle.guides.specs.Rules.{AnswersBeside}
 use Rattle.records.specs.declared.answer.Answer.TheVariants.{Yes}
 use Rattle.records.specs.declared.answer.Damage.{Damage}
 use Rattle.records.specs.declared.outcome.Outcome.{Outcome}
@@ -76,9 +77,9 @@ module _ {K : Type 0} where
 
   -- The rules over the places, each with the places that it needs.
   module _ (rank : K → K → Ordering) (ps : List (Place K)) (t : Task K) where
-    -- The side on which DOWN asks the guide.
-    abbrev pub asked_side : Side
-    asked_side = side_of (standing_at rank ps t.at t.key)
+    -- What the guide may answer to DOWN, by its sequence.
+    abbrev pub MayStand : List ℕ → Beside → Type 0
+    MayStand sequence beside = AnswersBeside sequence t.at (side_of (standing_at rank ps t.at t.key)) beside
 
     abbrev pub down : Beside → Result (Outcome K) Damage
     down beside = needing t.key ps t.at (λ at. Ok (down_by (standing_at rank ps t.at t.key) beside t))

@@ -3,8 +3,8 @@ use Rattle.std.specs.Prelude.{◌≡◌, ℕ, Bool, true, false, List, None, Ok,
 use Rattle.std.specs.declared.cmp.Ordering.{Ordering}
 use Rattle.guides.specs.declared.answer.Beside.{Beside}
 use Rattle.guides.specs.declared.answer.Beside.TheVariants.{End}
-use Rattle.guides.specs.Meaning.{Meaning, low}
-use Rattle.guides.specs.Rules.{attaching, detaching, Guiding}
+use Rattle.guides.specs.Meaning.{Meaning, low, has}
+use Rattle.guides.specs.Rules.{attaching, detaching}
 use Rattle.records.specs.declared.answer.Damage.{Damage}
 use Rattle.records.specs.declared.answer.Damage.TheVariants.{Guide}
 use Rattle.records.specs.declared.outcome.Outcome.{Outcome}
@@ -16,7 +16,7 @@ use Rattle.records.specs.declared.record.Task.{Task}
 use Rattle.records.specs.declared.record.Work.{Work}
 use Rattle.records.specs.declared.record.Work.TheVariants.{Put, Strike, Look, First as FirstWork, After}
 use Rattle.records.specs.Records.{Ruled, needing, into, start_over}
-use Rattle.rules.specs.Finding.{asked_side, enter, down, check, back_look, back_after, back_change, seek}
+use Rattle.rules.specs.Finding.{enter, down, MayStand, check, back_look, back_after, back_change, seek}
 use Rattle.rules.specs.Reading.{on_look, on_after, first, first_next}
 use Rattle.rules.specs.Holding.{lock, valid}
 use Rattle.rules.specs.Putting.{MayTake, take, link, link_back, release_new, put_end}
@@ -109,12 +109,11 @@ module _ {K : Type 0} where
     rule_of First c = reads ps m (first ps t)
     rule_of FirstNext c = reads ps m (first_next ps t)
 
-  -- The choices that the guide and the places allow: start and beside are answers that the guide may give, and the place
-  -- taken is free, or none is.
-  module _ {G : Type 0} (guide : Guiding G) (g : G) (rank : K → K → Ordering) (ps : List (Place K)) (t : Task K) where
+    -- The choices that the guide and the places allow: start stands in the guide's sequence, beside keeps its rule,
+    -- and the place taken is free, or none is.
     abbrev pub MayChoose : Phase → Choice → Type 0
-    MayChoose Enter c = guide.MayStart g c.start
-    MayChoose Down c = guide.MayStand g t.at (asked_side rank ps t) c.beside
+    MayChoose Enter c = has c.start m.sequence ≡ true
+    MayChoose Down c = MayStand rank ps t m.sequence c.beside
     MayChoose Check c = Unit {0}
     MayChoose Back c = Unit {0}
     MayChoose On c = Unit {0}
@@ -175,9 +174,9 @@ changes_guide First = false
 changes_guide FirstNext = false
 
 -- The rule of a step answered r, turned the places ps into ps' and the guide g into g': some allowed choices give just that.
-pub record FollowsRule {K G : Type 0} (guide : Guiding G) (rank : K → K → Ordering) (me : ℕ) (t : Task K)
+pub record FollowsRule {K G : Type 0} (meaning : G → Meaning) (rank : K → K → Ordering) (me : ℕ) (t : Task K)
     (ps : List (Place K)) (g : G) (r : Result (Outcome K) Damage) (ps' : List (Place K)) (g' : G) : Type 0 where
   pub choice : Choice
-  pub may : MayChoose guide g rank ps t t.phase choice
-  pub does : Turns guide.meaning (rule_of rank me ps (guide.meaning g) t t.phase choice) ps g r ps' g'
+  pub may : MayChoose rank me ps (meaning g) t t.phase choice
+  pub does : Turns meaning (rule_of rank me ps (meaning g) t t.phase choice) ps g r ps' g'
   pub keeps_guide : changes_guide t.phase ≡ false → g' ≡ g

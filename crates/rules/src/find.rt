@@ -1,7 +1,8 @@
 // The rules by which a work finds its place: ENTER, DOWN, CHECK, BACK, SEEK.
 ghost use Rattle.std.specs.Prelude.{◌≡◌};
+ghost use Rattle.guides.specs.declared.answer.Beside.{Beside as Besides};
 ghost use Rattle.records.specs.Records.{standing as standing_of};
-ghost use Rattle.rules.specs.Finding.{enter as enter_rule, lead as lead_rule, down as down_rule, asked_side};
+ghost use Rattle.rules.specs.Finding.{enter as enter_rule, lead as lead_rule, down as down_rule, MayStand};
 ghost use Rattle.rules.specs.Finding.{check as check_rule, back_look as back_look_rule, back_after as back_after_rule, back_change as back_change_rule, seek as seek_rule};
 
 use guides::{Beside, Guide, HIGH, LOW, Number, Side};
@@ -65,7 +66,7 @@ pub fn down<K: Order, G: Guide>(
     guide: &G,
     task: Task<K>,
 ) -> Result<Outcome<K>, Damage>
-    ensures { result ≡ down_rule K.Order.rank places.now task (G.Guide.besides guide.now task.at (asked_side K.Order.rank places.now task)) }
+    ensures { (beside : Besides) × MayStand K.Order.rank places.now task (G.Guide.meaning guide.now).sequence beside × (result ≡ down_rule K.Order.rank places.now task beside) }
 {
     let i = task.at as usize;
     if i >= places.len() {

@@ -1,11 +1,12 @@
-// The step list: what its rules say, and the functions of those that only read. The functions of the rules that write are
-// in the crates `holding`, `putting` and `striking`, and which rule applies is in `dispatch`.
-mod bounds;
+// The step list: the rules that a work follows, one function each, and which of them applies.
+#![tactic(auto)]
 mod find;
-mod held;
+mod follow;
+mod hang;
+mod hold;
+mod put;
 mod read;
+mod strike;
 
-pub use bounds::MOST_PLACES;
-pub use find::{back_after, back_change, back_look, check, down, enter, seek, standing};
-pub use held::held_by_other;
-pub use read::{first, first_next, on_after, on_look};
+pub use follow::follow_rule;
+pub use put::MOST_PLACES;

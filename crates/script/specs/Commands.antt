@@ -5,10 +5,10 @@ use Rattle.std.specs.Str.{bytes_eq}
 use Rattle.records.specs.declared.record.Work.{Work}
 use Rattle.records.specs.declared.record.Work.TheVariants.{Put, Strike, Look, First, After}
 use Rattle.script.specs.declared.command.Command.{Command}
-use Rattle.script.specs.declared.command.Command.TheVariants.{Open, Begin, Run, Leave, Mend, List as ListAll}
+use Rattle.script.specs.declared.command.Command.TheVariants.{Open, Begin, Run, Leave}
 use Rattle.script.specs.declared.command.Fields.{Fields}
 use Rattle.script.specs.declared.command.GuideName.{GuideName}
-use Rattle.script.specs.declared.command.GuideName.TheVariants.{Line, Tree, Even}
+use Rattle.script.specs.declared.command.GuideName.TheVariants.{Line}
 use Rattle.script.specs.Words.{Token, line_of, piece_of, token, token_of, token_value, is_name, is_dash}
 
 -- What the first gives, the second takes on; nothing if the first gives nothing.
@@ -56,10 +56,7 @@ tokens_of line =
 
 -- The guide of this name.
 abbrev pub guide_of : Token → Option GuideName
-guide_of word =
-    cond (is_name (codes "line") word) (Some Line)
-    (cond (is_name (codes "tree") word) (Some Tree)
-    (cond (is_name (codes "even") word) (Some Even) None))
+guide_of word = cond (is_name (codes "line") word) (Some Line) None
 
 -- The work of this name.
 abbrev pub work_of : Token → Option Work
@@ -98,19 +95,13 @@ beginning line =
 abbrev pub only_station : Tokens → Option ℕ
 only_station line = cond (is_dash line.work && is_dash line.key) (token_value line.station) None
 
--- A call without values: - - -
-abbrev pub without_values : Command → Tokens → Option Command
-without_values command line = cond (is_dash line.station && (is_dash line.work && is_dash line.key)) (Some command) None
-
--- The first word says which call it is: open S G P, begin S W K, run S - -, leave S - -, mend - - -, list - - -.
+-- The first word says which call it is: open S G P, begin S W K, run S - -, leave S - -.
 abbrev pub call_of : Tokens → Option Command
 call_of line =
     cond (is_name (codes "open") line.call) (opening line)
     (cond (is_name (codes "begin") line.call) (beginning line)
     (cond (is_name (codes "run") line.call) (option_map Run (only_station line))
-    (cond (is_name (codes "leave") line.call) (option_map Leave (only_station line))
-    (cond (is_name (codes "mend") line.call) (without_values Mend line)
-    (cond (is_name (codes "list") line.call) (without_values ListAll line) None)))))
+    (cond (is_name (codes "leave") line.call) (option_map Leave (only_station line)) None)))
 
 -- What a line says; nothing for a bad line.
 unfoldable pub command_of : List ℕ → Option Command

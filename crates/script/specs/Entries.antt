@@ -1,8 +1,6 @@
 -- What is printed of a script. Assumes nothing.
 use Rattle.std.specs.Prelude.{ℕ, List, ◌++◌, Some, None, codes, decimal, Option}
 use Rattle.orders.specs.declared.number.Ingredient.{Ingredient}
-use Rattle.guides.specs.declared.answer.Mended.{Mended}
-use Rattle.guides.specs.declared.answer.Mended.TheVariants.{Mended as DidMend, Nothing}
 use Rattle.guides.specs.Labels.{Label}
 use Rattle.records.specs.Labels.{refusal_label, stepped_word}
 use Rattle.records.specs.declared.answer.Answer.{Answer}
@@ -13,7 +11,7 @@ use Rattle.script.specs.declared.entry.Entry.{Entry}
 use Rattle.script.specs.declared.entry.LineRefusal.{LineRefusal}
 use Rattle.script.specs.declared.entry.LineRefusal.TheVariants.{BadLine, Call}
 use Rattle.script.specs.declared.entry.Said.{Said}
-use Rattle.script.specs.declared.entry.Said.TheVariants.{Opened, Begun, Ran, Left, Mended as MendedSo, Key, End, Refused}
+use Rattle.script.specs.declared.entry.Said.TheVariants.{Opened, Begun, Ran, Left, Refused}
 
 -- The first printed line has the names of the columns.
 abbrev pub heading : List ℕ
@@ -24,20 +22,12 @@ abbrev pub line_refusal_label : LineRefusal → Label
 line_refusal_label BadLine = record { number = 11; name = codes "BAD LINE" }
 line_refusal_label (Call refusal) = refusal_label refusal
 
--- What is said of a mend: it mended, or there was nothing to mend.
-abbrev pub mended_word : Mended → List ℕ
-mended_word DidMend = codes "mended"
-mended_word Nothing = codes "nothing"
-
 -- The column `answer`.
 abbrev pub said_word : Said → List ℕ
 said_word Opened = codes "opened"
 said_word Begun = codes "begun"
 said_word (Ran stepped) = stepped_word stepped
 said_word Left = codes "left"
-said_word (MendedSo answer) = mended_word answer
-said_word (Key key) = codes "key"
-said_word End = codes "end"
 said_word (Refused refusal) = codes "refused-" ++ decimal (line_refusal_label refusal).number
 
 -- The key that an answer tells.
@@ -60,15 +50,12 @@ stepped_steps Moved = None
 stepped_steps Waits = None
 stepped_steps (Ended answer steps) = Some steps
 
--- The column `key`: a run may come to a key, and a list shows keys.
+-- The column `key`: only what a run came to can tell a key.
 abbrev pub said_key : Said → Option ℕ
 said_key Opened = None
 said_key Begun = None
 said_key (Ran stepped) = stepped_key stepped
 said_key Left = None
-said_key (MendedSo answer) = None
-said_key (Key key) = Some key.0
-said_key End = None
 said_key (Refused refusal) = None
 
 -- The column `steps`: only a run can end a work.
@@ -77,9 +64,6 @@ said_steps Opened = None
 said_steps Begun = None
 said_steps (Ran stepped) = stepped_steps stepped
 said_steps Left = None
-said_steps (MendedSo answer) = None
-said_steps (Key key) = None
-said_steps End = None
 said_steps (Refused refusal) = None
 
 -- A dash stands for none.

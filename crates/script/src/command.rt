@@ -1,7 +1,7 @@
 // What the lines of a script say.
 ghost use Rattle.std.specs.Prelude.{◌≡◌};
 ghost use Rattle.std.specs.Option.{option_map};
-ghost use Rattle.script.specs.Commands.{script_of, tokens, next_word, tokens_of, guide_of as guide_of_rule, work_of as work_of_rule, key_of, opening, beginning, only_station as only_station_rule, without_values as without_values_rule, call_of as call_of_rule, command_of};
+ghost use Rattle.script.specs.Commands.{script_of, tokens, next_word, tokens_of, guide_of as guide_of_rule, work_of as work_of_rule, key_of, opening, beginning, only_station as only_station_rule, call_of as call_of_rule, command_of};
 ghost use Rattle.script.specs.Words.{token};
 
 use crate::word::{Word, first_line, first_word};
@@ -17,8 +17,6 @@ const NAMES: &[u8] = b"call station work key";
 #[derive(Clone, Copy)]
 pub enum GuideName {
     Line,
-    Tree,
-    Even,
 }
 
 // A call with its values.
@@ -44,10 +42,6 @@ pub enum Command {
     Leave {
         station: u32,
     },
-    // mend - - -
-    Mend,
-    // list - - -
-    List,
 }
 
 // The four words of a line.
@@ -103,10 +97,6 @@ fn guide_of(word: Word<'_>) -> Option<GuideName>
 {
     if word.is_name(b"line") {
         Some(GuideName::Line)
-    } else if word.is_name(b"tree") {
-        Some(GuideName::Tree)
-    } else if word.is_name(b"even") {
-        Some(GuideName::Even)
     } else {
         None
     }
@@ -176,17 +166,6 @@ fn only_station(line: Fields<'_>) -> Option<u32>
     }
 }
 
-// A call without values: - - -
-fn without_values(line: Fields<'_>, command: Command) -> Option<Command>
-    ensures { result ≡ without_values_rule command (tokens line.entry) }
-{
-    if line.station.is_dash() && line.work.is_dash() && line.key.is_dash() {
-        Some(command)
-    } else {
-        None
-    }
-}
-
 // Which call the four words of a line make.
 fn call_of(line: Fields<'_>) -> Option<Command>
     ensures { result ≡ call_of_rule (tokens line.entry) }
@@ -203,10 +182,6 @@ fn call_of(line: Fields<'_>) -> Option<Command>
         Some(Command::Leave {
             station: only_station(line)?,
         })
-    } else if line.call.is_name(b"mend") {
-        without_values(line, Command::Mend)
-    } else if line.call.is_name(b"list") {
-        without_values(line, Command::List)
     } else {
         None
     }

@@ -2,7 +2,6 @@
 ghost use Rattle.std.specs.Prelude.{◌≡◌, IfOk, Some, string_bytes};
 ghost use Rattle.script.specs.Entries.{heading, line_refusal_label, said_word, said_key, said_steps, number_or_dash, entry_bytes};
 
-use guides::Mended;
 use orders::Ingredient;
 use records::{Answer, Refusal, Stepped};
 use std::alloc::{AllocError, Global};
@@ -25,12 +24,6 @@ pub enum Said {
     // A station took a step.
     Ran(Stepped<Ingredient>),
     Left,
-    // The guide was asked to mend itself.
-    Mended(Mended),
-    // A key of the book, of those that are listed.
-    Key(Ingredient),
-    // The list is at its end.
-    End,
     Refused(LineRefusal),
 }
 
@@ -82,7 +75,6 @@ impl Said {
     {
         match self {
             Said::Ran(Stepped::Ended(Answer::Found(key), _)) => Some(u64::from(key.0)),
-            Said::Key(key) => Some(u64::from(key.0)),
             _ => None,
         }
     }
@@ -116,10 +108,6 @@ impl fmt::Display for Said {
             Said::Begun => f.write_str("begun"),
             Said::Ran(stepped) => f.write_str(stepped.word()),
             Said::Left => f.write_str("left"),
-            Said::Mended(Mended::Mended) => f.write_str("mended"),
-            Said::Mended(Mended::Nothing) => f.write_str("nothing"),
-            Said::Key(_) => f.write_str("key"),
-            Said::End => f.write_str("end"),
             Said::Refused(refusal) => {
                 let number = refusal.number();
                 write!(f, "refused-{number}")

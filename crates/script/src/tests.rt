@@ -2,7 +2,6 @@
 use crate::command::{Command, GuideName, MOST_BYTES, lines_of, read};
 use crate::entry::{Entry, LineRefusal, Said, heading};
 use crate::word::{Word, first_line, first_word};
-use guides::Mended;
 use orders::Ingredient;
 use records::{Answer, Refusal, Stepped, Work};
 use std::process::Abort;
@@ -45,16 +44,6 @@ fn good_lines(rt: HostRuntime) {
     );
     assert!(rt;
         matches!(
-            read(b"open 2 tree 3"),
-            Some(Command::Open {
-                stations: 2,
-                guide: GuideName::Tree,
-                places: 3
-            })
-        )
-    );
-    assert!(rt;
-        matches!(
             read(b"begin 1 after 0020"),
             Some(Command::Begin {
                 station: 1,
@@ -82,13 +71,11 @@ fn good_lines(rt: HostRuntime) {
         )
     );
     assert!(rt; matches!(read(b"leave 0 - -"), Some(Command::Leave { station: 0 })));
-    assert!(rt; matches!(read(b"mend - - -"), Some(Command::Mend)));
-    assert!(rt; matches!(read(b"list - - -"), Some(Command::List)));
 }
 
 #[test]
 fn bad_lines(rt: HostRuntime) {
-    let lines: [&[u8]; 15] = [
+    let lines: [&[u8]; 14] = [
         b"",
         b"run",
         b"run 1 -",
@@ -101,9 +88,8 @@ fn bad_lines(rt: HostRuntime) {
         b"run 4294967296 - -",
         b"begin 1 first 20",
         b"begin 1 put -",
-        b"open 2 bush 8",
+        b"open 2 tree 8",
         b"mend 1 - -",
-        b"list - - 1",
     ];
     for line in lines {
         assert!(rt; read(line).is_none());
@@ -141,9 +127,6 @@ fn printed_lines(rt: HostRuntime) -> Result<(), Fail> {
         "7 key 20 6",
     )?;
     prints(&rt, 9, ended(Answer::Missing, 1), "9 none - 1")?;
-    prints(&rt, 4, Said::Mended(Mended::Nothing), "4 nothing - -")?;
-    prints(&rt, 4, Said::Key(Ingredient(20)), "4 key 20 -")?;
-    prints(&rt, 4, Said::End, "4 end - -")?;
     prints(
         &rt,
         10,

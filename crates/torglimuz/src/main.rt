@@ -1,5 +1,6 @@
 // Reads a script from standard input, plays it, and writes a line for each line of it.
-use play::{Player, Reply};
+#![tactic(auto)]
+use play::Player;
 use script::{Entry, LineRefusal, MOST_BYTES, Said, first_line, heading, lines_of};
 use std::io::Read;
 
@@ -19,17 +20,6 @@ fn write(rt: &HostRuntime, line: u32, said: Said) -> anyhow::Result<()> {
     Ok(())
 }
 
-// All that a line of the script says, a printed line for each.
-fn write_all(rt: &HostRuntime, line: u32, reply: &Reply) -> anyhow::Result<()> {
-    for at in 0..usize::MAX {
-        let Some(said) = reply.said(at) else {
-            break;
-        };
-        write(rt, line, said)?;
-    }
-    Ok(())
-}
-
 // Plays the lines after the names. A last line without its line feed is a bad line.
 fn play(rt: &HostRuntime, script: &[u8]) -> anyhow::Result<()> {
     let mut player = Player::new();
@@ -38,17 +28,17 @@ fn play(rt: &HostRuntime, script: &[u8]) -> anyhow::Result<()> {
         if rest.is_empty() {
             break;
         }
-        let reply = match first_line(rest) {
+        let said = match first_line(rest) {
             Some((text, after)) => {
                 rest = after;
                 player.play(rt.alloc(), text)?
             }
             None => {
                 rest = &[];
-                Reply::Says(Said::Refused(LineRefusal::BadLine))
+                Said::Refused(LineRefusal::BadLine)
             }
         };
-        write_all(rt, line, &reply)?;
+        write(rt, line, said)?;
     }
     Ok(())
 }

@@ -16,8 +16,8 @@ fn opened(rt: &HostRuntime, places: u32, stations: u32) -> Result<Result<(), Ref
         status: Status::Free,
     };
     let station = Station::<Ingredient> { task: None };
-    let mut places = repeated(rt.alloc(), place, places as usize)?;
-    let mut stations = repeated(rt.alloc(), station, stations as usize)?;
+    let mut places = repeated(rt.alloc(), place, places)?;
+    let mut stations = repeated(rt.alloc(), station, stations)?;
     let mut guide = Line::new();
     Ok(open(places.as_mut_slice(), stations.as_mut_slice(), &mut guide))
 }

@@ -1,10 +1,9 @@
 // The straight guide: the sequence itself, in an array. It leads nowhere between Low and High, so a search that it
 // guides walks the whole sequence from Low.
-ghost use Rattle.std.specs.Prelude.{◌≡◌, ◌≤◌, true, is_some, IfSome, refl};
-ghost use Rattle.guides.specs.Meaning.{low, has, neighbours};
-ghost use Rattle.guides.specs.Rules.{cleared, NothingMended};
-ghost use Rattle.guides.specs.Straight.{straight, straight_beside, Holds};
-ghost use Rattle.guides.specs.LineGuideLemmas.{ends_or_absent};
+ghost use Rattle.std.specs.Prelude.{◌≡◌, ◌≤◌, true, is_some, IfSome, if◌then◌else◌};
+ghost use Rattle.guides.specs.Meaning.{has, neighbours};
+ghost use Rattle.guides.specs.Rules.{cleared, AnswersBeside};
+ghost use Rattle.guides.specs.Straight.{straight, Holds};
 ghost use Rattle.std.proofs.Common.{rules, arith};
 
 use crate::answer::{Beside, GuideRefusal, Mended, Number, Side};
@@ -62,19 +61,7 @@ impl Guide for Line {
 
     ghost meaning = { straight };
 
-    ghost starts = { λ l. low };
-
-    ghost besides = { straight_beside };
-
-    ghost mends = { NothingMended };
-
     ghost keeps = { first_of (Prim.search rules, Prim.grind (arith, Self.row.coded.inj)) };
-
-    ghost enters = { first_of (Prim.search rules, Prim.grind (arith, Self.row.coded.inj)) };
-
-    ghost leads = { λ l p side. ends_or_absent (straight l).sequence p side (has p (straight l).sequence) refl };
-
-    ghost spares = { first_of (Prim.search rules, Prim.grind (arith, Self.row.coded.inj)) };
 
     fn limit() -> usize {
         Self::CAPACITY
@@ -93,12 +80,18 @@ impl Guide for Line {
     }
 
     // Low, from where a search walks up.
-    fn start(&self) -> Number {
+    fn start(&self) -> Number
+        ensures self_value { has result (straight self.now).sequence ≡ true }
+        ensures value { result ≡ 0 }
+    {
         LOW
     }
 
     // The straight guide leads nowhere: beside each place is its end.
-    fn beside(&self, place: Number, side: Side) -> Beside {
+    fn beside(&self, place: Number, side: Side) -> Beside
+        ensures answers_beside { AnswersBeside (straight self.now).sequence place side result }
+        ensures value { result ≡ (if has place (straight self.now).sequence then Beside.End else Beside.Absent) }
+    {
         match self.position(place) {
             Some(_) => Beside::End,
             None => Beside::Absent,
@@ -134,7 +127,10 @@ impl Guide for Line {
     }
 
     // There is nothing to mend.
-    fn mend(&mut self) -> Mended {
+    fn mend(&mut self) -> Mended
+        ensures self_unchanged { straight self.new ≡ straight self.old }
+        ensures value { (result ≡ Mended.Nothing) × (self.new ≡ self.old) }
+    {
         Mended::Nothing
     }
 }

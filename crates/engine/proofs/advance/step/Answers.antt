@@ -1,15 +1,9 @@
 -- A step, by how far it came.
 use Rattle.std.proofs.Common.{◌≡◌, Err, sym, ap, ◌∙◌, subst, arith, rules}
 use Rattle.std.proofs.lemmas.Result.{err_from_is_err_and}
-use Rattle.guides.specs.Rules.{Guiding, by_its_answers}
 use Rattle.engine.specs.Calling.{Steps, FindsStation}
 use Rattle.engine.proofs.Made.{no_station, no_work, rule_failed, rule_followed}
-use Rattle.engine.proofs.advance.step.Given
 use Rattle.engine.proofs.advance.step.Goals as goal
-
--- What is known of the guide.
-abbrev known : (g : Given.Over) → Guiding g.row.G.Denot
-known g = by_its_answers g.G.Guide.meaning g.G.Guide.starts g.G.Guide.besides g.G.Guide.mends
 
 pub returns-in-err-task : goal.returns-in-err-task
 returns-in-err-task g c =
@@ -17,12 +11,12 @@ returns-in-err-task g c =
     let ss = c.args.stations.now in
     let guide = c.args.guide.now in
     let p = err_from_is_err_and c.from-residual.result c.from-residual.ensures.1 in
-    subst (λ r. Steps (known g) g.K.Order.rank c.args.station ps ss guide r ps ss guide) (sym (p.1 ∙ ap Err p.2))
-    (no_station (known g) g.K.Order.rank c.args.station ps ss guide _ c.in-err-task.ensures)
+    subst (λ r. Steps g.G.Guide.meaning g.K.Order.rank c.args.station ps ss guide r ps ss guide) (sym (p.1 ∙ ap Err p.2))
+    (no_station g.G.Guide.meaning g.K.Order.rank c.args.station ps ss guide _ c.in-err-task.ensures)
 
 pub returns-in-default : goal.returns-in-default
 returns-in-default g c =
-    no_work (known g) g.K.Order.rank c.args.station c.args.places.now c.args.stations.now c.args.guide.now
+    no_work g.G.Guide.meaning g.K.Order.rank c.args.station c.args.places.now c.args.stations.now c.args.guide.now
     (subst (FindsStation c.args.stations.now c.args.station) c.in-default.is c.in-ok-task.ensures)
 
 pub overflow-cast-me : goal.overflow-cast-me
@@ -38,15 +32,15 @@ returns-in-err-outcome g c =
     let guide = c.args.guide.now in
     let p = err_from_is_err_and c.from-residual-in-err-outcome.result c.from-residual-in-err-outcome.ensures.1 in
     let found = subst (FindsStation ss c.args.station) c.in-Some.is c.in-ok-task.ensures in
-    subst (λ r. Steps (known g) g.K.Order.rank c.args.station ps ss guide r c.follow-rule.new.places ss c.follow-rule.new.guide)
+    subst (λ r. Steps g.G.Guide.meaning g.K.Order.rank c.args.station ps ss guide r c.follow-rule.new.places ss c.follow-rule.new.guide)
     (sym (p.1 ∙ ap Err p.2))
-    (rule_failed (known g) g.K.Order.rank c.args.station ps ss guide c.in-Some.task found _ c.follow-rule.new.places
+    (rule_failed g.G.Guide.meaning g.K.Order.rank c.args.station ps ss guide c.in-Some.task found _ c.follow-rule.new.places
     c.follow-rule.new.guide c.in-err-outcome.ensures)
 
 pub returns : goal.returns
 returns g c =
     let ss = c.args.stations.now in
     let found = subst (FindsStation ss c.args.station) c.in-Some.is c.in-ok-task.ensures in
-    rule_followed (known g) g.K.Order.rank c.args.station c.args.places.now ss c.args.guide.now c.in-Some.task found
+    rule_followed g.G.Guide.meaning g.K.Order.rank c.args.station c.args.places.now ss c.args.guide.now c.in-Some.task found
     c.in-ok-outcome.outcome c.follow-rule.new.places c.settle.new.places c.settle.new.stations c.follow-rule.new.guide
     c.settle.result c.in-ok-outcome.ensures c.settle.ensures

@@ -1,5 +1,5 @@
 -- The set is filled station by station.
-use Rattle.std.proofs.Common.{◌≡◌, ℕ, ◌+◌, ◌<◌, false, length, get_or, set, sym, ap, ◌∙◌, subst, arith, length_set}
+use Rattle.std.proofs.Common.{◌≡◌, ℕ, ◌+◌, ◌<◌, false, length, get_or, set, sym, ap, ◌∙◌, subst, arith, length-set}
 use Rattle.std.proofs.lemmas.List.FromFn.{fill_by_all}
 use Rattle.std.proofs.lemmas.List.Edits.{fill_by_more}
 use Rattle.engine.specs.Settling.{other_at_work, others_at_work}
@@ -10,7 +10,7 @@ loop-i-preserved g c =
     let f = other_at_work c.args.me c.args.stations.now in
     let ws = c.loop-i.waits in
     let i = c.loop-i.i in (
-      simp length_set c.loop-i.invariant.0,
+      simp length-set c.loop-i.invariant.0,
       subst (λ v. (k : ℕ) → k < i + 1 → get_or (set ws i v) k false ≡ f k) (sym c.other_at_work.ensures)
           (fill_by_more f ws i false (omega (arith, c.loop-i.invariant.0)) c.loop-i.invariant.1),
     )

@@ -2,15 +2,9 @@
 use Rattle.std.proofs.Common.{◌≡◌, ℕ, Ok, Err, sym, ap, ◌∙◌, subst, arith}
 use Rattle.std.proofs.lemmas.Result.{err_from_is_err_and}
 use Rattle.records.specs.declared.answer.Stepped.TheVariants.{Moved, Waits, Ended}
-use Rattle.guides.specs.Rules.{Guiding, by_its_answers}
 use Rattle.engine.specs.Calling.{Steps}
 use Rattle.play.specs.Running.{most_steps, Moves, Runs, none, more, stops, tires}
-use Rattle.play.proofs.running.run.Given
 use Rattle.play.proofs.running.run.Goals as goal
-
--- What is known of the guide.
-abbrev known : (g : Given.Over) → Guiding g.row.G.Denot
-known g = by_its_answers g.G.Guide.meaning g.G.Guide.starts g.G.Guide.besides g.G.Guide.mends
 
 pub loop-taken-init : goal.loop-taken-init
 loop-taken-init g c = none
@@ -19,20 +13,20 @@ pub loop-taken-preserved : goal.loop-taken-preserved
 loop-taken-preserved g c =
     let l = c.loop-taken in
     more c.step.new.places c.step.new.stations c.step.new.guide l.invariant
-    (subst (λ x. Steps (known g) g.K.Order.rank c.args.station l.places l.stations l.guide (Ok x) c.step.new.places c.step.new.stations c.step.new.guide)
+    (subst (λ x. Steps g.G.Guide.meaning g.K.Order.rank c.args.station l.places l.stations l.guide (Ok x) c.step.new.places c.step.new.stations c.step.new.guide)
     c.in-Moved.is c.in-ok-step.ensures)
 
 pub returns : goal.returns
 returns g c =
     let l = c.loop-taken in
     let all : l.taken ≡ most_steps = omega arith in
-    tires (subst (λ n. Moves (known g) g.K.Order.rank c.args.station c.args.places.now c.args.stations.now c.args.guide.now n l.places l.stations l.guide) all l.invariant)
+    tires (subst (λ n. Moves g.G.Guide.meaning g.K.Order.rank c.args.station c.args.places.now c.args.stations.now c.args.guide.now n l.places l.stations l.guide) all l.invariant)
 
 pub returns-in-Waits : goal.returns-in-Waits
 returns-in-Waits g c =
     let l = c.loop-taken in
     stops (Ok Waits) c.step.new.places c.step.new.stations c.step.new.guide (omega arith) l.invariant
-    (subst (λ x. Steps (known g) g.K.Order.rank c.args.station l.places l.stations l.guide (Ok x) c.step.new.places c.step.new.stations c.step.new.guide)
+    (subst (λ x. Steps g.G.Guide.meaning g.K.Order.rank c.args.station l.places l.stations l.guide (Ok x) c.step.new.places c.step.new.stations c.step.new.guide)
     c.in-Waits.is c.in-ok-step.ensures)
     (λ e. let no : ◌≡◌ {A = ℕ} 0 1 = cc e in omega arith)
 
@@ -40,7 +34,7 @@ pub returns-in-Ended : goal.returns-in-Ended
 returns-in-Ended g c =
     let l = c.loop-taken in
     stops (Ok (Ended c.in-Ended.answer c.in-Ended.steps)) c.step.new.places c.step.new.stations c.step.new.guide (omega arith) l.invariant
-    (subst (λ x. Steps (known g) g.K.Order.rank c.args.station l.places l.stations l.guide (Ok x) c.step.new.places c.step.new.stations c.step.new.guide)
+    (subst (λ x. Steps g.G.Guide.meaning g.K.Order.rank c.args.station l.places l.stations l.guide (Ok x) c.step.new.places c.step.new.stations c.step.new.guide)
     c.in-Ended.is c.in-ok-step.ensures)
     (λ e. let no : ◌≡◌ {A = ℕ} 0 1 = cc e in omega arith)
 
@@ -48,7 +42,7 @@ pub returns-in-err-step : goal.returns-in-err-step
 returns-in-err-step g c =
     let l = c.loop-taken in
     let p = err_from_is_err_and c.from-residual.result c.from-residual.ensures.1 in
-    subst (λ r. Runs (known g) g.K.Order.rank c.args.station c.args.places.now c.args.stations.now c.args.guide.now r c.step.new.places c.step.new.stations c.step.new.guide)
+    subst (λ r. Runs g.G.Guide.meaning g.K.Order.rank c.args.station c.args.places.now c.args.stations.now c.args.guide.now r c.step.new.places c.step.new.stations c.step.new.guide)
     (sym (p.1 ∙ ap Err p.2))
     (stops _ c.step.new.places c.step.new.stations c.step.new.guide (omega arith) l.invariant c.in-err-step.ensures
     (λ e. let no : ◌≡◌ {A = ℕ} 0 1 = cc e in omega arith))
