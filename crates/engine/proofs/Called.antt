@@ -1,6 +1,6 @@
 -- What a call does at a station that is there, and at one that is not. Assumes nothing.
 use Rattle.std.proofs.Common.{◌≡◌, ℕ, ◌<◌, Bool, true, false, cond, ◌&&◌, ltb, List, length, get_or, set, is_some, Some, None, Ok, Err, Option, Result, sym, refl, ap, ◌∙◌, subst, arith}
-use Rattle.std.proofs.lemmas.Bool.{cond_true, cond_false, and_from, lt-ltb}
+use Rattle.std.proofs.lemmas.Bool.{cond-true, cond-false, and_from, lt-ltb}
 use Rattle.records.specs.declared.answer.Refusal.{Refusal}
 use Rattle.records.specs.declared.answer.Refusal.TheVariants.{NoStation, Busy, Idle, HoldsLock}
 use Rattle.records.specs.declared.record.Station.{Station}
@@ -15,16 +15,16 @@ module _ {K : Type 0} (ss : List (Station K)) (i : ℕ) where
   found_served t f = and_from (ltb i (length ss)) (ltb i most_stations) (lt-ltb i (length ss) f.within) (lt-ltb i most_stations f.among)
 
   pub task_at_found : (t : Option (Task K)) → FindsStation ss i t → task_at ss i ≡ t
-  task_at_found t f = cond_true (served ss i) (get_or ss i idle).task None (found_served t f) ∙ sym f.task
+  task_at_found t f = cond-true (served ss i) (get_or ss i idle).task None (found_served t f) ∙ sym f.task
 
   pub task_at_none : (e : Refusal) → FindsNone ss i e → task_at ss i ≡ None
-  task_at_none e f = cond_false (served ss i) (get_or ss i idle).task None f.missing
+  task_at_none e f = cond-false (served ss i) (get_or ss i idle).task None f.missing
 
   pub call_found : {A : Type 0} (call : Option (Task K) → Result A Refusal) (t : Option (Task K)) → FindsStation ss i t → at_station ss i call ≡ call t
-  call_found call t f = cond_true (served ss i) (call (get_or ss i idle).task) (Err NoStation) (found_served t f) ∙ ap call (sym f.task)
+  call_found call t f = cond-true (served ss i) (call (get_or ss i idle).task) (Err NoStation) (found_served t f) ∙ ap call (sym f.task)
 
   pub call_none : {A : Type 0} (call : Option (Task K) → Result A Refusal) (e : Refusal) → FindsNone ss i e → at_station ss i call ≡ Err e
-  call_none call e f = cond_false (served ss i) (call (get_or ss i idle).task) (Err NoStation) f.missing ∙ ap Err (sym f.says)
+  call_none call e f = cond-false (served ss i) (call (get_or ss i idle).task) (Err NoStation) f.missing ∙ ap Err (sym f.says)
 
   -- Begin.
   module _ (work : Work) (key : K) where

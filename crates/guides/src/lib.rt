@@ -1,5 +1,6 @@
 // What a guide promises, and the guides that keep it. A guide leads near a place and never sees a key.
 #![tactic(auto)]
+
 mod answer;
 mod ends;
 mod guide;

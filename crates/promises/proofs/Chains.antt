@@ -1,7 +1,7 @@
 -- That the chain of a book is its chained places in rising order, and that it reaches High. Assumes the laws of the order
 -- and what holds between calls.
 use Rattle.std.proofs.Common.{◌≡◌, ℕ, zero, suc, ◌+◌, ◌<◌, ◌≤◌, Bool, true, false, cond, ◌||◌, eqb, ltb, ◌⊎◌, List, [], ◌∷◌, ◌++◌, length, Ok, Err, Result, Ordering, sym, refl, ap, ◌∙◌, subst, inl, inr, ⊎_elim, arith}
-use Rattle.std.proofs.lemmas.Bool.{cases_lt, cases_Bool, true≢false, false≢true, eqb-true, eqb-false, eq-eqb, lt-ltb, or_cases, or_left, or_right, cond_true}
+use Rattle.std.proofs.lemmas.Bool.{cases_lt, cases_Bool, true≢false, false≢true, eqb-true, eqb-false, eq-eqb, lt-ltb, or_cases, or_left, or_right, cond-true}
 use Rattle.std.proofs.lemmas.Bool.Decides.{nat_tests}
 use Rattle.guides.specs.Meaning.{Meaning, low, high, has, distinct, all_below}
 use Rattle.guides.proofs.Sequences.{has_append}
@@ -222,7 +222,7 @@ module _ {K : Type 0} (rank : K → K → Ordering) (laws : Laws rank) (ps : Lis
       (distinct_more p passed new once) (below_more (length ps) p passed within inside) (omega arith) in
       by_end p (eqb p high) refl (chain_from n ps (next_of ps p)) (cond (ltb p (length ps)) (reaches_high n ps (next_of ps p)) (Err NoPlace))
       (λ b. (refl, eqb-false p high b, ch, (more b).0))
-      (λ b. cond_true (ltb p (length ps)) (reaches_high n ps (next_of ps p)) (Err NoPlace) (lt-ltb p (length ps) within) ∙ (more b).1)
+      (λ b. cond-true (ltb p (length ps)) (reaches_high n ps (next_of ps p)) (Err NoPlace) (lt-ltb p (length ps) within) ∙ (more b).1)
 
   from_low : Walks (sight ps ss m) (next_of ps low) (chain ps) × (reaches_high (length ps) ps (next_of ps low) ≡ Ok tt)
   from_low =

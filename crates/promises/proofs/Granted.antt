@@ -1,6 +1,6 @@
 -- That the guide accepts every ATTACH and DETACH of a work. Assumes the laws of the order and what holds between calls.
 use Rattle.std.proofs.Common.{◌≡◌, ℕ, ◌<◌, Bool, true, false, not, ◌&&◌, ◌||◌, eqb, leb, ◌⊎◌, List, [], ◌∷◌, Some, None, Ok, Err, Option, Ordering, sym, refl, ap, ◌∙◌, subst, inl, inr, ⊎_elim, arith}
-use Rattle.std.proofs.lemmas.Bool.{cases_Bool, true≢false, false≢true, eqb-true, eq-eqb, ne_eqb, lt-leb, and_parts, and_from, or_cases, or_left, or_right, or_from, not_from_true, not_from_false, cond_false}
+use Rattle.std.proofs.lemmas.Bool.{cases_Bool, true≢false, false≢true, eqb-true, eq-eqb, ne_eqb, lt-leb, and_parts, and_from, or_cases, or_left, or_right, or_from, not_from_true, not_from_false, cond-false}
 use Rattle.std.proofs.lemmas.Bool.Decides.{nat_tests}
 use Rattle.guides.specs.declared.answer.GuideRefusal.TheVariants.{BadSpot, NotThere}
 use Rattle.guides.specs.Meaning.{low, high, has, begins_with, neighbours}
@@ -98,7 +98,7 @@ module _ {K : Type 0} (rank : K → K → Ordering) (laws : Laws rank) (s : Sigh
 
       pub detach_granted : detaching t.other s.guide ≡ Ok (detached t.other s.guide)
       detach_granted =
-          cond_false (leb t.other high || not (has t.other s.guide.sequence)) (Err NotThere) (Ok (detached t.other s.guide))
+          cond-false (leb t.other high || not (has t.other s.guide.sequence)) (Err NotThere) (Ok (detached t.other s.guide))
           (or_from (leb t.other high) (not (has t.other s.guide.sequence)) (lt-leb t.other high detached_inner) (not_from_true (has t.other s.guide.sequence) detached_shown))
 
     -- ---- ATTACH
@@ -263,7 +263,7 @@ module _ {K : Type 0} (rank : K → K → Ordering) (laws : Laws rank) (s : Sigh
       pub attach_granted : attaching t.at t.other (s.next t.other) s.guide ≡ Ok (attached t.at t.other s.guide)
       attach_granted =
           let within : t.other < s.guide.places = subst (λ n. t.other < n) (sym inv.guide_size) (joined_within rank laws s inv i t is joined) in
-          cond_false
+          cond-false
           (has t.other s.guide.sequence || (leb s.guide.places t.other || not (neighbours t.at (s.next t.other) s.guide.sequence)))
           (Err BadSpot) (Ok (attached t.at t.other s.guide))
           (or_from (has t.other s.guide.sequence) (leb s.guide.places t.other || not (neighbours t.at (s.next t.other) s.guide.sequence)) attached_hidden

@@ -1,6 +1,6 @@
 -- What a rule leaves alone: places of the chain, and places that were struck and wait for a work. Assumes the invariant.
 use Rattle.std.proofs.Common.{◌≡◌, ℕ, ◌<◌, ◌≤◌, Bool, true, false, cond, eqb, leb, ◌⊎◌, get_or, Ordering, sym, refl, ap, ◌∙◌, subst, inl, inr, arith}
-use Rattle.std.proofs.lemmas.Bool.{true≢false, eqb-true, eq-eqb, ne_eqb, cond_true, cond_false, cases_eq, cases_Bool}
+use Rattle.std.proofs.lemmas.Bool.{true≢false, eqb-true, eq-eqb, ne_eqb, cond-true, cond-false, cases_eq, cases_Bool}
 use Rattle.guides.specs.Meaning.{high}
 use Rattle.records.specs.declared.outcome.Outcome.{Outcome}
 use Rattle.records.specs.declared.record.Phase.{Phase}
@@ -18,10 +18,10 @@ use Rattle.promises.proofs.Touches.{Touch, Still, is_retiring}
 -- ---- reading a function with another value at one number
 
 pub at_other : {A : Type 0} (f : ℕ → A) (p : ℕ) (a : A) (q : ℕ) → (p ≡ q → ⊥) → at_with f p a q ≡ f q
-at_other f p a q h = cond_false (eqb p q) a (f q) (ne_eqb p q h)
+at_other f p a q h = cond-false (eqb p q) a (f q) (ne_eqb p q h)
 
 pub at_same : {A : Type 0} (f : ℕ → A) (p : ℕ) (a : A) (q : ℕ) → p ≡ q → at_with f p a q ≡ a
-at_same f p a q e = cond_true (eqb p q) a (f q) (eq-eqb p q e)
+at_same f p a q e = cond-true (eqb p q) a (f q) (eq-eqb p q e)
 
 -- Two numbers at which a test differs are two.
 pub apart_by : (f : ℕ → Bool) (p q : ℕ) → f p ≡ true → f q ≡ false → p ≡ q → ⊥

@@ -1,7 +1,7 @@
 -- That the keys of a book rise and that list shows them, refused only where there are too few positions. Assumes the laws
 -- of the order and what holds between calls.
 use Rattle.std.proofs.Common.{◌≡◌, ℕ, ◌<◌, ◌≤◌, Bool, true, false, cond, eqb, ltb, List, [], ◌∷◌, ◌++◌, length, drop, Some, None, Ok, Err, Option, Result, Ordering, Less, Equal, Greater, sym, refl, ap, ◌∙◌, subst, inl, inr, arith}
-use Rattle.std.proofs.lemmas.Bool.{lt-ltb, ltb-true, or_left, or_right, eq-eqb, cond_true}
+use Rattle.std.proofs.lemmas.Bool.{lt-ltb, ltb-true, or_left, or_right, eq-eqb, cond-true}
 use Rattle.std.proofs.lemmas.Bool.Decides.{nat_tests}
 use Rattle.std.specs.List.{slice_get}
 use Rattle.std.specs.Ordering.{is_lt}
@@ -94,7 +94,7 @@ module _ {K : Type 0} (rank : K → K → Ordering) (laws : Laws rank) (ps : Lis
   listing_told positions =
       let two : 2 ≤ length ps = inv.two in
       let there : low < length ps = omega arith in
-      cond_true (ltb low (length ps)) (listing_by (reaches_high (length ps) ps (next_of ps low)) ps positions) (Err (Damaged NoPlace)) (lt-ltb low (length ps) there)
+      cond-true (ltb low (length ps)) (listing_by (reaches_high (length ps) ps (next_of ps low)) ps positions) (Err (Damaged NoPlace)) (lt-ltb low (length ps) there)
       ∙ ap (λ r. listing_by r ps positions) (chain_reaches_high rank laws ps ss m inv)
 
   refused_so : (given after : List K) (e : Refusal) (b : Bool) → ltb (length given) (length (contents ps)) ≡ b

@@ -2,7 +2,7 @@
 -- under way, and which places come to the chain. Assumes the invariant.
 use Rattle.std.proofs.Common.{◌≡◌, ℕ, zero, suc, ◌<◌, ◌≤◌, Bool, true, false, cond, not, ◌&&◌, ◌||◌, eqb, leb, ◌⊎◌, List, [], ◌∷◌, length, get_or, set, is_some, Some, None, Option, Ordering, sym, refl, ap, ◌∙◌, subst, inl, inr, arith}
 use Rattle.std.proofs.lemmas.List.{get_or-set_other}
-use Rattle.std.proofs.lemmas.Option.{slice_get_get_or}
+use Rattle.std.proofs.lemmas.Option.{slice_get-get_or}
 use Rattle.std.proofs.lemmas.Bool.{true≢false, ne_eqb, cases_eq, or_right}
 use Rattle.std.specs.List.{slice_get}
 use Rattle.records.specs.declared.answer.Stepped.{Stepped}
@@ -131,7 +131,7 @@ module _ {K : Type 0} where
       go (inr other) = ap is_chained (at_other s.status q (rests w) p other)
 
   others_has : (i j : ℕ) (s : Sight K) (w : List Bool) → Others j s w → i < most_stations → (i ≡ j → ⊥) → is_some (s.task i) ≡ true → get_or w i false ≡ true
-  others_has i j s w others h apart works = some_same (sym (slice_get_get_or w i false (omega (arith, others.many))) ∙ others.each i h ∙ ap (λ b. Some (not b && is_some (s.task i))) (ne_eqb i j apart) ∙ ap Some works)
+  others_has i j s w others h apart works = some_same (sym (slice_get-get_or w i false (omega (arith, others.many))) ∙ others.each i h ∙ ap (λ b. Some (not b && is_some (s.task i))) (ne_eqb i j apart) ∙ ap Some works)
     where
       some_same : {a b : Bool} → Some a ≡ Some b → a ≡ b
       some_same e = cc

@@ -39,7 +39,7 @@ use Rattle.promises.proofs.Sees.{at_not_other}
 use Rattle.promises.proofs.Marking.{other_by, holds_by}
 use Rattle.std.specs.List.{slice_get}
 use Rattle.std.proofs.lemmas.List.{get_or_past}
-use Rattle.std.proofs.lemmas.Option.{slice_get_get_or}
+use Rattle.std.proofs.lemmas.Option.{slice_get-get_or}
 use Rattle.engine.specs.Settling.{most_stations, anyone, retired_for as rests, awaiting_task, with_await}
 use Rattle.promises.proofs.Settles.{Others}
 use Rattle.promises.proofs.Overs.{nobody}
@@ -93,11 +93,11 @@ module _ {K : Type 0} where
   ]
     where
       value : j < most_stations → get_or w j false ≡ (not (eqb j me) && is_some (s.task j))
-      value less = just _ _ (sym (slice_get_get_or w j false (subst (λ k. j < k) (sym o.many) less)) ∙ o.each j less)
+      value less = just _ _ (sym (slice_get-get_or w j false (subst (λ k. j < k) (sym o.many) less)) ∙ o.each j less)
 
   waits_since : (me : ℕ) (s : Sight K) (w : List Bool) → Others me s w → (j : ℕ) → j < most_stations → (me ≡ j → ⊥) → is_some (s.task j) ≡ true → get_or w j false ≡ true
   waits_since me s w o j less d h =
-      just _ _ (sym (slice_get_get_or w j false (subst (λ k. j < k) (sym o.many) less)) ∙ o.each j less)
+      just _ _ (sym (slice_get-get_or w j false (subst (λ k. j < k) (sym o.many) less)) ∙ o.each j less)
       ∙ and_from (not (eqb j me)) _ (ap not (ne_eqb j me (λ same. d (sym same)))) h
 
 somebody : (w : List Bool) (j : ℕ) → get_or w j false ≡ true → anyone w ≡ true

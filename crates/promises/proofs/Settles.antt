@@ -1,6 +1,6 @@
 -- What a step does with its stations once its rule has decided, as it is seen. Assumes nothing.
 use Rattle.std.proofs.Common.{◌≡◌, ℕ, zero, suc, ◌+◌, ◌<◌, ◌≤◌, Bool, true, false, cond, not, ◌&&◌, ◌||◌, eqb, ltb, leb, ◌⊎◌, List, [], ◌∷◌, map, length, get_or, set, is_some, Some, None, Ok, Err, Option, Result, Ordering, Less, Equal, Greater, sym, refl, ap, ◌∙◌, subst, inl, inr, arith}
-use Rattle.std.proofs.lemmas.Bool.{ltb-true, leb-true, leb-false, eqb-true, eqb-false, cond_true, cond_false, and_from, lt-ltb, and_parts}
+use Rattle.std.proofs.lemmas.Bool.{ltb-true, leb-true, leb-false, eqb-true, eqb-false, cond-true, cond-false, and_from, lt-ltb, and_parts}
 use Rattle.std.proofs.lemmas.Bool.Decides.{nat_tests}
 use Rattle.guides.specs.declared.answer.Beside.{Beside}
 use Rattle.guides.specs.declared.answer.Beside.TheVariants.{Absent, End, Stands}
@@ -22,7 +22,7 @@ use Rattle.records.specs.declared.record.Work.TheVariants.{Put, Strike, Look, Fi
 use Rattle.std.specs.List.{slice_get, range_with_len}
 use Rattle.std.proofs.lemmas.List.{length-set, length-map, get_or_past}
 use Rattle.std.proofs.lemmas.List.FromFn.{length-map-range_with_len, get_or-map-range_with_len}
-use Rattle.std.proofs.lemmas.Option.{slice_get_get_or}
+use Rattle.std.proofs.lemmas.Option.{slice_get-get_or}
 use Rattle.records.specs.declared.answer.Answer.{Answer}
 use Rattle.records.specs.declared.answer.Refusal.{Refusal}
 use Rattle.records.specs.declared.answer.Stepped.{Stepped}
@@ -136,7 +136,7 @@ module _ {K : Type 0} where
   others_seen me ss ps m = record {
     many = length-map-range_with_len (other_at_work me ss) 0 most_stations;
     each = λ j h.
-        slice_get_get_or (map (other_at_work me ss) (range_with_len 0 most_stations)) j false (simp length-map-range_with_len h)
+        slice_get-get_or (map (other_at_work me ss) (range_with_len 0 most_stations)) j false (simp length-map-range_with_len h)
         ∙ ap Some (get_or-map-range_with_len (other_at_work me ss) 0 most_stations j j false h (omega arith) ∙ ap (λ b. not (eqb j me) && b) (works_at ss j h));
   }
 

@@ -3,8 +3,8 @@
 use Rattle.std.proofs.Common.{◌≡◌, ℕ, zero, suc, ◌<◌, ◌≤◌, Bool, true, false, cond, ◌&&◌, eqb, ltb, ◌≢◌, List, [], ◌∷◌, map, length, get_or, set, Some, None, Option, sym, refl, ap, ◌∙◌, subst, arith}
 use mathlib.Core.Path.{fun_ext}
 use Rattle.std.proofs.lemmas.List.{length-set, length-map}
-use Rattle.std.proofs.lemmas.Option.{slice_get_get_or, slice_get_past}
-use Rattle.std.proofs.lemmas.Bool.{cond_true, cond_false, eqb-true, ltb-true, eq-eqb, and_parts}
+use Rattle.std.proofs.lemmas.Option.{slice_get-get_or, slice_get_past}
+use Rattle.std.proofs.lemmas.Bool.{cond-true, cond-false, eqb-true, ltb-true, eq-eqb, and_parts}
 use Rattle.std.proofs.lemmas.Bool.Decides.{nat_tests}
 use Rattle.std.specs.List.{slice_get}
 use Rattle.guides.specs.Meaning.{Meaning, low, high}
@@ -119,7 +119,7 @@ module _ {K : Type 0} {A : Type 0} (other : A) (field : Place K → A) where
   field_set ps p q x h = ap (field_of other field) (nth_set ps p q x h) ∙ field_cond (eqb p q) x (slice_get ps q)
 
   pub field_read : (k : K) (ps : List (Place K)) (p : ℕ) → p < length ps → field (place k ps p) ≡ field_of other field (slice_get ps p)
-  field_read k ps p h = sym (ap (field_of other field) (slice_get_get_or ps p (blank k) h))
+  field_read k ps p h = sym (ap (field_of other field) (slice_get-get_or ps p (blank k) h))
 
   -- A field that a write leaves alone.
   pub field_kept : (k : K) (ps : List (Place K)) (p q : ℕ) (x : Place K) → p < length ps → field x ≡ field (place k ps p)

@@ -1,6 +1,6 @@
 -- That no step of a working station is refused. Assumes the laws of the order and what holds between calls.
 use Rattle.std.proofs.Common.{◌≡◌, ℕ, ◌<◌, ◌≤◌, Bool, true, false, cond, ltb, leb, List, length, get_or, Some, None, Ok, Err, Result, Ordering, sym, refl, ap, ◌∙◌, subst, arith}
-use Rattle.std.proofs.lemmas.Bool.{true≢false, lt-ltb, cond_true}
+use Rattle.std.proofs.lemmas.Bool.{true≢false, lt-ltb, cond-true}
 use Rattle.guides.specs.Meaning.{Meaning, low}
 use Rattle.guides.specs.Rules.{attaching}
 use Rattle.guides.proofs.Sequences.{attached, detached}
@@ -42,7 +42,7 @@ use Rattle.promises.proofs.Granted.{attach_granted, detach_granted}
 
 module _ {K A : Type 0} (k : K) (ps : List (Place K)) where
   finds : (p : ℕ) (rule : Place K → Result A Damage) → p < length ps → needing k ps p rule ≡ rule (place k ps p)
-  finds p rule h = cond_true (ltb p (length ps)) (rule (place k ps p)) (Err NoPlace) (lt-ltb p (length ps) h)
+  finds p rule h = cond-true (ltb p (length ps)) (rule (place k ps p)) (Err NoPlace) (lt-ltb p (length ps) h)
 
   finds_two : (p : ℕ) (q : Place K → ℕ) (f : Place K → Place K → A) → p < length ps → q (place k ps p) < length ps
       → needing k ps p (λ x. needing k ps (q x) (λ y. Ok (f x y))) ≡ Ok (f (place k ps p) (place k ps (q (place k ps p))))

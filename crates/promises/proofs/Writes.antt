@@ -2,7 +2,7 @@
 use Rattle.std.proofs.Common.{◌≡◌, ℕ, zero, suc, ◌<◌, ◌≤◌, Bool, true, false, cond, ◌&&◌, eqb, ltb, List, [], ◌∷◌, map, length, get_or, set, Some, None, Option, sym, refl, ap, ◌∙◌, arith}
 use mathlib.Core.Path.{fun_ext}
 use Rattle.std.proofs.lemmas.List.{length-set, get_or-set_same, get_or-set_other}
-use Rattle.std.proofs.lemmas.Bool.{cond_true, cond_false, eqb-true, and_parts}
+use Rattle.std.proofs.lemmas.Bool.{cond-true, cond-false, eqb-true, and_parts}
 use Rattle.std.proofs.lemmas.Bool.Decides.{nat_tests}
 use Rattle.std.specs.List.{slice_get}
 use Rattle.guides.specs.Meaning.{Meaning, low, high}
@@ -138,7 +138,7 @@ module _ {K : Type 0} (ps : List (Place K)) (ss : List (Station K)) (m : Meaning
 
   task_same : (x : Station K) → task_at (set ss i x) i ≡ x.task
   task_same x =
-      cond_true (served (set ss i x) i) _ _ (same_served x i ∙ there) ∙ ap (λ y. y.task) (get_or-set_same ss i x idle inside)
+      cond-true (served (set ss i x) i) _ _ (same_served x i ∙ there) ∙ ap (λ y. y.task) (get_or-set_same ss i x idle inside)
 
   task_other : (x : Station K) (j : ℕ) → eqb i j ≡ false → task_at (set ss i x) j ≡ task_at ss j
   task_other x j e =

@@ -1,7 +1,7 @@
 -- That DOWN does what the step list says, by how its place stands to the key. Assumes nothing.
 use Rattle.std.proofs.Common.{◌≡◌, ℕ, ◌<◌, cond, ltb, List, length, get_or, Ok, Err, Result, Ordering, sym, ap, ◌∙◌, subst}
 use Rattle.std.proofs.lemmas.List.{get_or_default}
-use Rattle.std.proofs.lemmas.Bool.{cond_true, lt-ltb}
+use Rattle.std.proofs.lemmas.Bool.{cond-true, lt-ltb}
 use Rattle.guides.specs.declared.answer.Beside.{Beside}
 use Rattle.guides.specs.Rules.{AnswersBeside}
 use Rattle.records.specs.declared.answer.Damage.{Damage}
@@ -25,5 +25,5 @@ module _ {K : Type 0} (rank : K → K → Ordering) (ps : List (Place K)) (t : T
       let st = standing_read x o within e in (
         beside,
         subst (λ z. AnswersBeside sequence t.at (side_of z) beside) (sym st) may,
-        ap Ok (told ∙ ap (λ z. down_by z beside t) (sym st)) ∙ sym (cond_true (ltb t.at (length ps)) _ (Err NoPlace) (lt-ltb t.at (length ps) within)),
+        ap Ok (told ∙ ap (λ z. down_by z beside t) (sym st)) ∙ sym (cond-true (ltb t.at (length ps)) _ (Err NoPlace) (lt-ltb t.at (length ps) within)),
       )

@@ -1,4 +1,3 @@
 mod Cuts
-mod Same
 mod Within
 mod Values

@@ -1,7 +1,7 @@
 -- The value of digits, found digit by digit. Assumes nothing.
 use Rattle.std.proofs.Common.{◌≡◌, ℕ, ◌+◌, ◌-◌, ◌*◌, ◌<◌, ◌≤◌, List, [], ◌∷◌, length, get_or, drop, Some, None, sym, refl, ap, ◌∙◌, arith}
 use Rattle.std.proofs.lemmas.List.{at_drop_more, at_drop_all}
-use Rattle.std.proofs.lemmas.Bool.{cond_true, cond_false, le-leb, lt-leb}
+use Rattle.std.proofs.lemmas.Bool.{cond-true, cond-false, le-leb, lt-leb}
 use Rattle.script.specs.Words.{value_after, number_value}
 
 -- More digits make no smaller value.
@@ -26,9 +26,9 @@ module _ (ds : List ℕ) (i n : ℕ) (read : Read ds i n) where
     pub read_too_large : 4294967295 < with_digit ds i n → None ≡ number_value ds
     read_too_large large =
         let grown : 4294967295 < value_after 0 ds = omega (arith, read_more, value_grows (with_digit ds i n) (drop (i + 1) ds)) in
-        sym (cond_false _ _ _ (lt-leb _ _ grown))
+        sym (cond-false _ _ _ (lt-leb _ _ grown))
 
   pub read_all : length ds ≤ i → n ≤ 4294967295 → Some n ≡ number_value ds
   read_all end fits =
       let whole : n ≡ value_after 0 ds = sym (at_drop_all (value_after n) ds i end) ∙ read in
-      ap Some whole ∙ sym (cond_true _ _ _ (le-leb (value_after 0 ds) 4294967295 (omega arith)))
+      ap Some whole ∙ sym (cond-true _ _ _ (le-leb (value_after 0 ds) 4294967295 (omega arith)))

@@ -77,7 +77,7 @@ impl<'a> Word<'a> {
             Some(Word::Name(piece))
         } else if made_of(piece, b'0', b'9') {
             Some(Word::Number(piece))
-        } else if piece == b"-" {
+        } else if piece == b"-".as_slice() {
             Some(Word::Dash(piece))
         } else {
             None

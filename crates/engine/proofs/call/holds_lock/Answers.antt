@@ -12,13 +12,13 @@ holds_from i ps n x b within read e =
     ap (λ y. y || holds_lock i (drop (n + 1) ps)) e
     ∙ sym (ap (holds_lock i) (drop_more ps n x within ∙ ap (λ y. y ∷ drop (n + 1) ps) (sym read)))
 
-pub returns-then-locked-by : goal.returns-then-locked-by
-returns-then-locked-by g c =
-    holds_from c.args.i c.args.places.now c.loop-place.place-index c.place-item.result _ (omega arith) c.place-item.is c.if-locked-by.ensures ∙ c.loop-place.invariant
+pub returns-then-locked_by : goal.returns-then-locked_by
+returns-then-locked_by g c =
+    holds_from c.args.i c.args.places.now c.loop-place.place-index c.place-item.result _ (omega arith) c.place-item.is c.if-locked_by.ensures ∙ c.loop-place.invariant
 
 pub loop-place-preserved : goal.loop-place-preserved
 loop-place-preserved g c =
-    holds_from c.args.i c.args.places.now c.loop-place.place-index c.place-item.result _ (omega arith) c.place-item.is c.if-locked-by.ensures ∙ c.loop-place.invariant
+    holds_from c.args.i c.args.places.now c.loop-place.place-index c.place-item.result _ (omega arith) c.place-item.is c.if-locked_by.ensures ∙ c.loop-place.invariant
 
 pub returns : goal.returns
 returns g c = sym (ap (holds_lock c.args.i) (drop_all c.loop-place.place-index c.args.places.now (omega arith))) ∙ c.loop-place.invariant

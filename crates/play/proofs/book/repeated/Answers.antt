@@ -5,4 +5,4 @@ use Rattle.play.proofs.book.repeated.Goals as goal
 
 pub loop-i-preserved : goal.loop-i-preserved
 loop-i-preserved g c =
-    c.in-ok-push.ensures.items ∙ ap (λ xs. xs ++ (c.args.value ∷ [])) c.loop-i.invariant ∙ replicate_more c.loop-i.i c.args.value
+    c.in_ok-push.ensures.items ∙ ap (λ xs. xs ++ (c.args.value ∷ [])) c.loop-i.invariant ∙ replicate_more c.loop-i.i c.args.value

@@ -14,7 +14,7 @@ loop-taken-preserved g c =
     let l = c.loop-taken in
     more c.step.new.places c.step.new.stations c.step.new.guide l.invariant
     (subst (λ x. Steps g.G.Guide.meaning g.K.Order.rank c.args.station l.places l.stations l.guide (Ok x) c.step.new.places c.step.new.stations c.step.new.guide)
-    c.in-Moved.is c.in-ok-step.ensures)
+    c.in-Moved.is c.in_ok-step.ensures)
 
 pub returns : goal.returns
 returns g c =
@@ -27,7 +27,7 @@ returns-in-Waits g c =
     let l = c.loop-taken in
     stops (Ok Waits) c.step.new.places c.step.new.stations c.step.new.guide (omega arith) l.invariant
     (subst (λ x. Steps g.G.Guide.meaning g.K.Order.rank c.args.station l.places l.stations l.guide (Ok x) c.step.new.places c.step.new.stations c.step.new.guide)
-    c.in-Waits.is c.in-ok-step.ensures)
+    c.in-Waits.is c.in_ok-step.ensures)
     (λ e. let no : ◌≡◌ {A = ℕ} 0 1 = cc e in omega arith)
 
 pub returns-in-Ended : goal.returns-in-Ended
@@ -35,14 +35,14 @@ returns-in-Ended g c =
     let l = c.loop-taken in
     stops (Ok (Ended c.in-Ended.answer c.in-Ended.steps)) c.step.new.places c.step.new.stations c.step.new.guide (omega arith) l.invariant
     (subst (λ x. Steps g.G.Guide.meaning g.K.Order.rank c.args.station l.places l.stations l.guide (Ok x) c.step.new.places c.step.new.stations c.step.new.guide)
-    c.in-Ended.is c.in-ok-step.ensures)
+    c.in-Ended.is c.in_ok-step.ensures)
     (λ e. let no : ◌≡◌ {A = ℕ} 0 1 = cc e in omega arith)
 
-pub returns-in-err-step : goal.returns-in-err-step
-returns-in-err-step g c =
+pub returns-in_err-step : goal.returns-in_err-step
+returns-in_err-step g c =
     let l = c.loop-taken in
-    let p = err_from_is_err_and c.from-residual.result c.from-residual.ensures.1 in
+    let p = err_from_is_err_and c.from_residual.result c.from_residual.ensures.1 in
     subst (λ r. Runs g.G.Guide.meaning g.K.Order.rank c.args.station c.args.places.now c.args.stations.now c.args.guide.now r c.step.new.places c.step.new.stations c.step.new.guide)
     (sym (p.1 ∙ ap Err p.2))
-    (stops _ c.step.new.places c.step.new.stations c.step.new.guide (omega arith) l.invariant c.in-err-step.ensures
+    (stops _ c.step.new.places c.step.new.stations c.step.new.guide (omega arith) l.invariant c.in_err-step.ensures
     (λ e. let no : ◌≡◌ {A = ℕ} 0 1 = cc e in omega arith))

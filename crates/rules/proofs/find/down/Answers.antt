@@ -19,7 +19,7 @@ returns-in-Equal g c =
     let sequence = (g.G.Guide.meaning c.args.guide.now).sequence in
     let some = some_beside sequence c.args.task.at Lower in
     downs g.K.Order.rank c.args.places.now c.args.task sequence
-    c.index-places-i.result Equal some.0 c.go-on.result (omega arith) c.in-Equal.ensures some.1 c.go-on.ensures
+    c.index-places-i.result Equal some.0 c.go_on.result (omega arith) c.in-Equal.ensures some.1 c.go_on.ensures
 
 pub returns-in-Greater : goal.returns-in-Greater
 returns-in-Greater g c =

@@ -22,13 +22,13 @@ pub returns-in-First-default : goal.returns-in-First-default
 returns-in-First-default g c = follows_reading g.G.Guide.meaning g.K.Order.rank c.args.me c.args.task c.args.places.now c.args.guide.now First none_open _ _ c.in-First-default.is-0 tt refl c.first.ensures
 
 pub returns-in-FirstNext-default : goal.returns-in-FirstNext-default
-returns-in-FirstNext-default g c = follows_reading g.G.Guide.meaning g.K.Order.rank c.args.me c.args.task c.args.places.now c.args.guide.now FirstNext none_open _ _ c.in-FirstNext-default.is-0 tt refl c.first-next.ensures
+returns-in-FirstNext-default g c = follows_reading g.G.Guide.meaning g.K.Order.rank c.args.me c.args.task c.args.places.now c.args.guide.now FirstNext none_open _ _ c.in-FirstNext-default.is-0 tt refl c.first_next.ensures
 
 pub returns-in-Back-Put : goal.returns-in-Back-Put
 returns-in-Back-Put g c = follows_reading g.G.Guide.meaning g.K.Order.rank c.args.me c.args.task c.args.places.now c.args.guide.now Back none_open _ _ c.in-Back-Put.is-0 tt (ap (λ work. reads c.args.places.now (g.G.Guide.meaning c.args.guide.now) (back g.K.Order.rank c.args.me c.args.places.now (g.G.Guide.meaning c.args.guide.now) c.args.task work)) c.in-Back-Put.is-1) c.back_change.ensures
 
 pub returns-in-Back-Strike : goal.returns-in-Back-Strike
-returns-in-Back-Strike g c = follows_reading g.G.Guide.meaning g.K.Order.rank c.args.me c.args.task c.args.places.now c.args.guide.now Back none_open _ _ c.in-Back-Strike.is-0 tt (ap (λ work. reads c.args.places.now (g.G.Guide.meaning c.args.guide.now) (back g.K.Order.rank c.args.me c.args.places.now (g.G.Guide.meaning c.args.guide.now) c.args.task work)) c.in-Back-Strike.is-1) c.back-change-in-Back-Strike.ensures
+returns-in-Back-Strike g c = follows_reading g.G.Guide.meaning g.K.Order.rank c.args.me c.args.task c.args.places.now c.args.guide.now Back none_open _ _ c.in-Back-Strike.is-0 tt (ap (λ work. reads c.args.places.now (g.G.Guide.meaning c.args.guide.now) (back g.K.Order.rank c.args.me c.args.places.now (g.G.Guide.meaning c.args.guide.now) c.args.task work)) c.in-Back-Strike.is-1) c.back_change-in-Back-Strike.ensures
 
 pub returns-in-Back-Look : goal.returns-in-Back-Look
 returns-in-Back-Look g c = follows_reading g.G.Guide.meaning g.K.Order.rank c.args.me c.args.task c.args.places.now c.args.guide.now Back none_open _ _ c.in-Back-Look.is-0 tt (ap (λ work. reads c.args.places.now (g.G.Guide.meaning c.args.guide.now) (back g.K.Order.rank c.args.me c.args.places.now (g.G.Guide.meaning c.args.guide.now) c.args.task work)) c.in-Back-Look.is-1) c.back_look.ensures
@@ -40,16 +40,16 @@ pub returns-in-Back-After : goal.returns-in-Back-After
 returns-in-Back-After g c = follows_reading g.G.Guide.meaning g.K.Order.rank c.args.me c.args.task c.args.places.now c.args.guide.now Back none_open _ _ c.in-Back-After.is-0 tt (ap (λ work. reads c.args.places.now (g.G.Guide.meaning c.args.guide.now) (back g.K.Order.rank c.args.me c.args.places.now (g.G.Guide.meaning c.args.guide.now) c.args.task work)) c.in-Back-After.is-1) c.back_after.ensures
 
 pub returns-in-On-Put : goal.returns-in-On-Put
-returns-in-On-Put g c = follows_reading g.G.Guide.meaning g.K.Order.rank c.args.me c.args.task c.args.places.now c.args.guide.now On none_open _ _ c.in-On-Put.is-0 tt (ap (λ work. reads c.args.places.now (g.G.Guide.meaning c.args.guide.now) (on g.K.Order.rank c.args.me c.args.places.now (g.G.Guide.meaning c.args.guide.now) c.args.task work)) c.in-On-Put.is-1) (ap Ok c.start-over-in-On-Put.ensures)
+returns-in-On-Put g c = follows_reading g.G.Guide.meaning g.K.Order.rank c.args.me c.args.task c.args.places.now c.args.guide.now On none_open _ _ c.in-On-Put.is-0 tt (ap (λ work. reads c.args.places.now (g.G.Guide.meaning c.args.guide.now) (on g.K.Order.rank c.args.me c.args.places.now (g.G.Guide.meaning c.args.guide.now) c.args.task work)) c.in-On-Put.is-1) (ap Ok c.start_over-in-On-Put.ensures)
 
 pub returns-in-On-Strike : goal.returns-in-On-Strike
-returns-in-On-Strike g c = follows_reading g.G.Guide.meaning g.K.Order.rank c.args.me c.args.task c.args.places.now c.args.guide.now On none_open _ _ c.in-On-Strike.is-0 tt (ap (λ work. reads c.args.places.now (g.G.Guide.meaning c.args.guide.now) (on g.K.Order.rank c.args.me c.args.places.now (g.G.Guide.meaning c.args.guide.now) c.args.task work)) c.in-On-Strike.is-1) (ap Ok c.start-over-in-On-Strike.ensures)
+returns-in-On-Strike g c = follows_reading g.G.Guide.meaning g.K.Order.rank c.args.me c.args.task c.args.places.now c.args.guide.now On none_open _ _ c.in-On-Strike.is-0 tt (ap (λ work. reads c.args.places.now (g.G.Guide.meaning c.args.guide.now) (on g.K.Order.rank c.args.me c.args.places.now (g.G.Guide.meaning c.args.guide.now) c.args.task work)) c.in-On-Strike.is-1) (ap Ok c.start_over-in-On-Strike.ensures)
 
 pub returns-in-On-Look : goal.returns-in-On-Look
 returns-in-On-Look g c = follows_reading g.G.Guide.meaning g.K.Order.rank c.args.me c.args.task c.args.places.now c.args.guide.now On none_open _ _ c.in-On-Look.is-0 tt (ap (λ work. reads c.args.places.now (g.G.Guide.meaning c.args.guide.now) (on g.K.Order.rank c.args.me c.args.places.now (g.G.Guide.meaning c.args.guide.now) c.args.task work)) c.in-On-Look.is-1) c.on_look.ensures
 
 pub returns-in-On-First : goal.returns-in-On-First
-returns-in-On-First g c = follows_reading g.G.Guide.meaning g.K.Order.rank c.args.me c.args.task c.args.places.now c.args.guide.now On none_open _ _ c.in-On-First.is-0 tt (ap (λ work. reads c.args.places.now (g.G.Guide.meaning c.args.guide.now) (on g.K.Order.rank c.args.me c.args.places.now (g.G.Guide.meaning c.args.guide.now) c.args.task work)) c.in-On-First.is-1) (ap Ok c.start-over-in-On-First.ensures)
+returns-in-On-First g c = follows_reading g.G.Guide.meaning g.K.Order.rank c.args.me c.args.task c.args.places.now c.args.guide.now On none_open _ _ c.in-On-First.is-0 tt (ap (λ work. reads c.args.places.now (g.G.Guide.meaning c.args.guide.now) (on g.K.Order.rank c.args.me c.args.places.now (g.G.Guide.meaning c.args.guide.now) c.args.task work)) c.in-On-First.is-1) (ap Ok c.start_over-in-On-First.ensures)
 
 pub returns-in-On-After : goal.returns-in-On-After
 returns-in-On-After g c = follows_reading g.G.Guide.meaning g.K.Order.rank c.args.me c.args.task c.args.places.now c.args.guide.now On none_open _ _ c.in-On-After.is-0 tt (ap (λ work. reads c.args.places.now (g.G.Guide.meaning c.args.guide.now) (on g.K.Order.rank c.args.me c.args.places.now (g.G.Guide.meaning c.args.guide.now) c.args.task work)) c.in-On-After.is-1) c.on_after.ensures

@@ -10,4 +10,4 @@ loop-i-preserved g c = λ k p two lt.
     let ps = c.args.places.now in
     let i = c.loop-i.i in
     below_more (λ (q : ℕ). 2 ≤ q → is_free (place k ps q).status ≡ false) i (λ q below from. c.loop-i.invariant k q from below)
-    (λ from. ap (λ x. is_free x.status) (get_or_default ps i (blank k) c.index-places-i.result (omega arith)) ∙ sym c.if-is-free.ensures) p lt two
+    (λ from. ap (λ x. is_free x.status) (get_or_default ps i (blank k) c.index-places-i.result (omega arith)) ∙ sym c.if-is_free.ensures) p lt two

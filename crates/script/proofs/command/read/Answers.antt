@@ -3,9 +3,9 @@ use Rattle.std.proofs.Common.{rules}
 use Rattle.script.specs.Commands.{command_of}
 use Rattle.script.proofs.command.read.Goals as goal
 
-pub returns-in-err-fields-of : goal.returns-in-err-fields-of
+pub returns-in_err-fields_of : goal.returns-in_err-fields_of
 unfolding command_of
-returns-in-err-fields-of c = search rules
+returns-in_err-fields_of c = search rules
 
 pub returns : goal.returns
 unfolding command_of

@@ -34,4 +34,4 @@ returns c =
     let high = c.args.high in
     let bytes = c.args.bytes.now in
     let end = at_drop_all (all_within low high) bytes c.loop-b.b-index c.loop-b-test.false in
-    ap not c.is-empty.ensures ∙ made_of_within low high bytes (sym c.loop-b.invariant ∙ end)
+    ap not c.is_empty.ensures ∙ made_of_within low high bytes (sym c.loop-b.invariant ∙ end)

@@ -4,5 +4,5 @@ use Rattle.guides.proofs.line.edits.put_in.Goals as goal
 
 pub returns : goal.returns
 returns c =
-    take_put_in c.args.order.now c.rotate-right.new.self c.args.count c.args.at c.args.place
-    c.requires.0 c.requires.1 c.rotate-right.ensures.after
+    take_put_in c.args.order.now c.rotate_right.new.self c.args.count c.args.at c.args.place
+    c.requires.0 c.requires.1 c.rotate_right.ensures.after

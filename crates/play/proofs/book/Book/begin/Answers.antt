@@ -12,7 +12,7 @@ returns g c =
     let same = with_items_is book.stations last (omega arith) in (
       subst (Begins (beginning (stations book) c.args.station c.args.work (ingredient c.args.key)) (stations book) c.begin.result) (sym same)
           (subst (λ ss. Begins (beginning ss c.args.station c.args.work (ingredient c.args.key)) ss c.begin.result last)
-          c.as-mut-slice.ensures.value c.begin.ensures),
+          c.as_mut_slice.ensures.value c.begin.ensures),
       refl,
       refl,
     )

@@ -9,7 +9,7 @@ pub returns : goal.returns
 returns g c =
     let book = c.args.self.now in (
       moved (λ ps ss ps' ss'. Leaves (leaving ps ss c.args.station) ps ss c.leave.result ps' ss') _ _ _ _ c.leave.new.places _ c.leave.new.stations _
-          c.as-mut-slice.ensures.value c.as-mut-slice-2.ensures.value
+          c.as_mut_slice.ensures.value c.as_mut_slice-2.ensures.value
           (with_items_is book.places c.leave.new.places (omega arith)) (with_items_is book.stations c.leave.new.stations (omega arith)) c.leave.ensures,
       refl,
     )
