@@ -1,5 +1,6 @@
 // The index: its calls on lent records. Each says exactly what it answers and what it leaves.
 #![tactic(auto)]
+
 mod advance;
 mod call;
 mod settle;

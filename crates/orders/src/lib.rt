@@ -1,5 +1,6 @@
 // What a kind of key is: a lawful order, and the kinds that the index serves.
 #![tactic(auto)]
+
 mod days;
 mod number;
 mod order;

@@ -1,5 +1,6 @@
 // Plays a script on a book.
 #![tactic(auto)]
+
 mod book;
 mod player;
 mod running;

@@ -1,5 +1,6 @@
 // The promises of the index, proved over every run of its calls.
 #![tactic(auto)]
+
 ghost use Rattle.std.specs.Prelude.{◌≡◌, true};
 ghost use Rattle.promises.specs.Promised.{Promises};
 

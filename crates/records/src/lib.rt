@@ -1,5 +1,6 @@
 // The records that the index works on, and what its calls answer.
 #![tactic(auto)]
+
 mod answer;
 mod outcome;
 mod record;

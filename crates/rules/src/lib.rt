@@ -1,5 +1,6 @@
 // The step list: the rules that a work follows, one function each, and which of them applies.
 #![tactic(auto)]
+
 mod find;
 mod follow;
 mod hang;

@@ -1,5 +1,6 @@
 // Scripts: the text that calls the index, and the lines that are printed.
 #![tactic(auto)]
+
 mod command;
 mod entry;
 #[cfg(test)]

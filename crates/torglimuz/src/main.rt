@@ -1,5 +1,6 @@
 // Reads a script from standard input, plays it, and writes a line for each line of it.
 #![tactic(auto)]
+
 use play::Player;
 use script::{Entry, LineRefusal, MOST_BYTES, Said, first_line, heading, lines_of};
 use std::io::Read;

@@ -1,5 +1,6 @@
 // Trials of the whole index on its own records: single steps, every refusal, every bound.
 #![tactic(auto)]
+
 #[cfg(test)]
 mod bounds;
 #[cfg(test)]
