@@ -1,5 +1,5 @@
 -- Stations that do not count as another at work. Assumes nothing.
-use Rattle.std.proofs.Common.{◌≡◌, ℕ, ◌≤◌, Bool, true, false, not, ◌&&◌, eqb, ◌⊎◌, List, length, is_some, sym, refl, ap, ◌∙◌, inl, inr}
+use Rattle.std.proofs.Common.{◌≡◌, ℕ, ◌≤◌, false, not, ◌&&◌, eqb, ◌⊎◌, List, length, is_some, sym, ap, inl, inr}
 use Rattle.std.proofs.lemmas.List.{get_or_past}
 use Rattle.std.proofs.lemmas.Bool.{eq-eqb, and_right}
 use Rattle.records.specs.declared.record.Station.{Station}

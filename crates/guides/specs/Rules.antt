@@ -1,5 +1,5 @@
 -- What each call of a guide does to its meaning, and what it may answer. Assumes nothing.
-use Rattle.std.specs.Prelude.{◌≡◌, ℕ, Bool, true, false, cond, not, ◌||◌, List, [], ◌∷◌, Ok, Err, Result, nat_le, nat_lt}
+use Rattle.std.specs.Prelude.{◌≡◌, ℕ, true, false, cond, not, ◌||◌, List, [], ◌∷◌, Ok, Err, Result, nat_le, nat_lt}
 use Rattle.guides.specs.declared.answer.Beside.{Beside}
 use Rattle.guides.specs.declared.answer.Beside.TheVariants.{Absent, End, Stands}
 use Rattle.guides.specs.declared.answer.GuideRefusal.{GuideRefusal}

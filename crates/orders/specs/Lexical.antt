@@ -1,8 +1,8 @@
 -- That below is transitive for pairs, whose first parts decide first. Assumes the laws of both parts' orders.
-use Rattle.std.specs.Prelude.{◌≡◌, ◌⊎◌, refl}
+use Rattle.std.specs.Prelude.{◌≡◌}
 use Rattle.std.specs.declared.cmp.Ordering.TheVariants.{Less, Equal, Greater}
 use Rattle.std.specs.declared.cmp.Ordering.{Ordering}
-use Rattle.std.proofs.Common.{sym, ap, ◌∙◌, inl, inr}
+use Rattle.std.proofs.Common.{sym, ap, ◌∙◌}
 use Rattle.std.specs.Ordering.{ordering_then}
 
 module _ {A : Type 0} (rank : A → A → Ordering) (chains : (a b c : A) → rank a b ≡ Less → rank b c ≡ Less → rank a c ≡ Less)

@@ -1,6 +1,5 @@
 -- How two keys of each kind stand to each other. Assumes nothing.
 -- `Less` says that the first stands below the second, `Equal` that they are the same, `Greater` that it stands above.
-use Rattle.std.specs.Prelude.{ℕ}
 use Rattle.std.specs.declared.cmp.Ordering.{Ordering}
 use Rattle.std.specs.Ordering.{ordering_then, nat_cmp, int_cmp}
 use Rattle.orders.specs.declared.number.Ingredient.{Ingredient}

@@ -1,5 +1,5 @@
 -- What the calls make of a book: the records of the engine's calls lie in it. Assumes nothing.
-use Rattle.std.specs.Prelude.{◌≡◌, ℕ, min, false, List, replicate, None, Ok, Err, vec_items, Result}
+use Rattle.std.specs.Prelude.{◌≡◌, ℕ, min, List, replicate, Ok, Err, vec_items, Result}
 use Rattle.guides.specs.Meaning.{Meaning}
 use Rattle.orders.specs.declared.number.Ingredient.{Ingredient}
 use Rattle.orders.specs.Ranks.{by_ingredient}
@@ -9,7 +9,7 @@ use Rattle.records.specs.declared.record.Place.{Place}
 use Rattle.records.specs.declared.record.Station.{Station}
 use Rattle.records.specs.declared.record.Work.{Work}
 use Rattle.records.specs.Records.{blank}
-use Rattle.engine.specs.Calling.{Opened, opening, beginning, Begins, leaving, Leaves}
+use Rattle.engine.specs.Calling.{Opened, beginning, Begins, leaving, Leaves}
 use Rattle.engine.specs.Settling.{idle}
 use Rattle.play.specs.declared.book.Book.{Book}
 use Rattle.play.specs.Running.{Runs}

@@ -5,11 +5,9 @@ use Rattle.guides.specs.Straight.{straight}
 use Rattle.orders.specs.declared.number.Ingredient.{Ingredient}
 use Rattle.records.specs.declared.answer.Refusal.{Refusal}
 use Rattle.records.specs.declared.answer.Stepped.{Stepped}
-use Rattle.records.specs.declared.record.Work.{Work}
 use Rattle.script.specs.declared.command.Command.{Command}
 use Rattle.script.specs.declared.command.Command.TheVariants.{Open, Begin, Run, Leave}
 use Rattle.script.specs.declared.command.GuideName.{GuideName}
-use Rattle.script.specs.declared.command.GuideName.TheVariants.{Line as LineName}
 use Rattle.script.specs.declared.entry.LineRefusal.TheVariants.{BadLine, Call}
 use Rattle.script.specs.declared.entry.Said.{Said}
 use Rattle.script.specs.declared.entry.Said.TheVariants.{Opened, Begun, Ran, Left, Refused}

@@ -1,5 +1,5 @@
 -- What it means to run a station's work: steps until an end, a wait, a refusal or 5,000 steps. Assumes nothing.
-use Rattle.std.specs.Prelude.{◌≡◌, ℕ, ◌+◌, ◌<◌, List, Ok, Result, ◌≢◌}
+use Rattle.std.specs.Prelude.{ℕ, ◌+◌, ◌<◌, List, Ok, Result, ◌≢◌}
 use Rattle.std.specs.declared.cmp.Ordering.{Ordering}
 use Rattle.guides.specs.Meaning.{Meaning}
 use Rattle.records.specs.declared.answer.Refusal.{Refusal}

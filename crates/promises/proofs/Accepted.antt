@@ -1,25 +1,13 @@
 -- That every accepted step is seen as one of the ways and settles as told, and that a refused one changes nothing.
 -- Assumes nothing.
-use Rattle.std.proofs.Common.{◌≡◌, ℕ, ◌+◌, ◌<◌, ◌≤◌, Bool, true, false, cond, not, ◌||◌, eqb, ltb, leb, ◌⊎◌, List, [], ◌∷◌, length, get_or, Some, None, Ok, Err, Option, Result, Ordering, Less, Equal, Greater, sym, refl, ap, ◌∙◌, subst, inl, inr, arith}
-use Rattle.std.proofs.lemmas.Bool.{ltb-true, leb-true, leb-false, eqb-true, eqb-false}
-use Rattle.std.proofs.lemmas.Bool.Decides.{nat_tests}
-use Rattle.guides.specs.declared.answer.Beside.{Beside}
-use Rattle.guides.specs.declared.answer.Beside.TheVariants.{Absent, End, Stands}
-use Rattle.guides.specs.declared.answer.Side.{Side}
-use Rattle.guides.specs.declared.answer.Side.TheVariants.{Lower, Higher}
-use Rattle.guides.specs.Meaning.{Meaning, low, high, has}
-use Rattle.guides.specs.Rules.{AnswersBeside}
-use Rattle.records.specs.declared.answer.Answer.TheVariants.{Yes, No, Found, Missing, NoRoom}
+use Rattle.std.proofs.Common.{◌≡◌, ℕ, ◌<◌, Bool, true, false, cond, List, get_or, Some, None, Ok, Err, Option, Result, Ordering, sym, refl, ap, ◌∙◌, subst, arith}
+use Rattle.guides.specs.Meaning.{Meaning}
 use Rattle.records.specs.declared.answer.Damage.{Damage}
 use Rattle.records.specs.declared.outcome.Outcome.{Outcome}
 use Rattle.records.specs.declared.outcome.Outcome.TheVariants.{Goes, Waits, Ends, Retires}
-use Rattle.records.specs.declared.record.Phase.{Phase}
-use Rattle.records.specs.declared.record.Phase.TheVariants.{Enter, Down, Check, Back, On, Seek, Lock, Valid, Take, Link, LinkBack, Attach, ReleaseNew, PutEnd, TakeVictim, Mark, UnlinkBack, Unlink, Detach, ReleaseVictim, StrikeEnd, First, FirstNext}
 use Rattle.records.specs.declared.record.Place.{Place}
 use Rattle.records.specs.declared.record.Station.{Station}
 use Rattle.records.specs.declared.record.Task.{Task}
-use Rattle.records.specs.declared.record.Work.{Work}
-use Rattle.records.specs.declared.record.Work.TheVariants.{Put, Strike, Look, First as FirstWork, After}
 use Rattle.records.specs.declared.answer.Refusal.{Refusal}
 use Rattle.records.specs.declared.answer.Refusal.TheVariants.{NoStation, Idle, Damaged}
 use Rattle.records.specs.declared.answer.Stepped.{Stepped}

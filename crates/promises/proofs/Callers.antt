@@ -1,32 +1,25 @@
 -- That begin and leave keep the invariant. Assumes nothing.
-use Rattle.std.proofs.Common.{◌≡◌, ℕ, zero, suc, ◌+◌, ◌<◌, ◌≤◌, Bool, true, false, cond, not, ◌&&◌, ◌||◌, eqb, ltb, leb, ◌⊎◌, List, [], ◌∷◌, length, get_or, set, Some, None, Ok, Err, Option, Result, Ordering, sym, refl, ap, ◌∙◌, subst, inl, inr, arith}
-use Rattle.std.proofs.lemmas.Bool.{eqb-true, eqb-false, eq-eqb, ne_eqb, or_left, or_right, or_cases, and_parts, or_parts}
+use Rattle.std.proofs.Common.{◌≡◌, ℕ, zero, suc, Bool, true, false, cond, ◌&&◌, eqb, leb, List, [], ◌∷◌, get_or, set, Some, None, Ok, Err, Option, Result, Ordering, sym, refl, ap, ◌∙◌, subst, arith}
+use Rattle.std.proofs.lemmas.Bool.{eq-eqb, or_parts}
 use Rattle.std.proofs.lemmas.Bool.Decides.{nat_tests}
-use Rattle.guides.specs.Meaning.{low, high, has}
-use Rattle.records.specs.declared.record.Phase.{Phase}
-use Rattle.records.specs.declared.record.Phase.TheVariants.{Enter, Down, Check, Back, On, Seek, Lock, Valid, Take, Link, LinkBack, Attach, ReleaseNew, PutEnd, TakeVictim, Mark, UnlinkBack, Unlink, Detach, ReleaseVictim, StrikeEnd, First, FirstNext}
-use Rattle.records.specs.declared.record.Status.{Status}
-use Rattle.records.specs.declared.record.Status.TheVariants.{Free, InHand, Chained, Retired}
 use Rattle.records.specs.declared.record.Task.{Task}
 use Rattle.records.specs.declared.record.Work.{Work}
 use Rattle.records.specs.declared.record.Work.TheVariants.{Put, Strike, Look, First as FirstWork, After}
 use Rattle.engine.specs.Calling.{locked_by}
-use Rattle.promises.specs.Promised.{is_chained}
-use Rattle.promises.proofs.Laws.{Laws, Bound, bottom, exact, top, before}
 use Rattle.std.specs.List.{slice_get}
 use Rattle.guides.specs.Meaning.{Meaning}
 use Rattle.records.specs.declared.answer.Refusal.{Refusal}
-use Rattle.records.specs.declared.answer.Refusal.TheVariants.{NoStation, Busy, Idle, HoldsLock}
+use Rattle.records.specs.declared.answer.Refusal.TheVariants.{NoStation, HoldsLock}
 use Rattle.records.specs.declared.record.Place.{Place}
 use Rattle.records.specs.declared.record.Station.{Station}
 use Rattle.records.specs.Records.{first_phase}
-use Rattle.engine.specs.Calling.{served, task_at, at_station, begun, begin_by, beginning, Begins, holds_lock, Left, leave_by, leaving, Leaves}
+use Rattle.engine.specs.Calling.{served, task_at, begun, begin_by, beginning, Begins, holds_lock, leave_by, leaving, Leaves}
 use Rattle.engine.specs.Contents.{field_of}
 use Rattle.engine.specs.Settling.{idle, busy, after_work}
-use Rattle.promises.proofs.Sights.{Sight, sight, at_with, task_put}
+use Rattle.promises.proofs.Sights.{Sight, sight, task_put}
 use Rattle.promises.proofs.Writes.{sees_task}
 use Rattle.promises.proofs.Settles.{sees_work_over}
-use Rattle.promises.proofs.Invariant.{rung, group, fits, holds_at, holds, is_awaited, chained, seen_by, Stands, Inv}
+use Rattle.promises.proofs.Invariant.{rung, group, fits, holds_at, holds, is_awaited, Inv}
 use Rattle.promises.proofs.Retasks.{Loose, none_loose, task_loose, loose_like, Like, Sound, retask, loose_stands}
 use Rattle.promises.proofs.Overs.{work_over_keeps}
 use Rattle.promises.proofs.Sees.{never, low_seen}

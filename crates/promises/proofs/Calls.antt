@@ -1,19 +1,19 @@
 -- What each call does to a book as it is seen: nothing, a begin, an accepted step, or a leave. Assumes nothing.
-use Rattle.std.proofs.Common.{◌≡◌, ℕ, ◌<◌, Bool, true, false, cond, not, ◌&&◌, eqb, ltb, List, [], ◌∷◌, length, get_or, set, is_some, is_ok, Some, None, Ok, Err, Option, Result, Ordering, sym, refl, ap, ◌∙◌, subst, arith}
+use Rattle.std.proofs.Common.{◌≡◌, ℕ, ◌<◌, Bool, true, false, cond, eqb, ltb, List, length, get_or, set, is_some, Some, None, Ok, Err, Option, Result, Ordering, sym, refl, ap, ◌∙◌}
 use Rattle.std.proofs.lemmas.Bool.{true≢false, and_right, and_parts, ltb-true}
 use Rattle.guides.specs.Meaning.{Meaning}
 use Rattle.records.specs.declared.answer.Refusal.{Refusal}
-use Rattle.records.specs.declared.answer.Refusal.TheVariants.{NoStation, Busy, Idle, HoldsLock}
+use Rattle.records.specs.declared.answer.Refusal.TheVariants.{NoStation, HoldsLock}
 use Rattle.records.specs.declared.answer.Stepped.{Stepped}
 use Rattle.records.specs.declared.record.Place.{Place}
 use Rattle.records.specs.declared.record.Station.{Station}
 use Rattle.records.specs.declared.record.Task.{Task}
 use Rattle.records.specs.declared.record.Work.{Work}
-use Rattle.engine.specs.Calling.{served, task_at, begun, begin_by, Begins, leave_by, Leaves, holds_lock, Left}
+use Rattle.engine.specs.Calling.{served, task_at, begun, begin_by, Begins, leave_by, Leaves, holds_lock}
 use Rattle.engine.specs.Settling.{most_stations, idle, busy, after_work}
 use Rattle.promises.specs.Books.{Book, work_at}
 use Rattle.promises.specs.Runs.{Call, Reply, Does, is_step_of, begin, step, leave, mend, list, begun as has_begun, stepped, left, mended, listed}
-use Rattle.promises.proofs.Sights.{Sight, sight, sight_of, task_put}
+use Rattle.promises.proofs.Sights.{sight, sight_of, task_put}
 use Rattle.promises.proofs.Writes.{sees_task}
 use Rattle.promises.proofs.Settles.{work_over, sees_work_over}
 use Rattle.promises.proofs.Accepted.{Made, accepted_step_made, refused_step_keeps}

@@ -1,10 +1,9 @@
 -- A put or a strike that answers yes has changed the keys at exactly one of its steps, one under way at most once, and every
 -- other work and every other answer at none. Assumes the laws of the order, and the invariant of every book of a run.
-use Rattle.std.proofs.Common.{◌≡◌, ℕ, ◌+◌, ◌≤◌, Bool, true, false, cond, not, ◌&&◌, eqb, ◌⊎◌, Some, Ok, Ordering, sym, refl, ap, ◌∙◌, inl, inr, true≢false, arith}
+use Rattle.std.proofs.Common.{◌≡◌, ℕ, ◌+◌, ◌≤◌, true, false, cond, not, ◌&&◌, Ok, Ordering, sym, refl, ap, ◌∙◌, true≢false, arith}
 use Rattle.std.proofs.lemmas.Bool.{eq-eqb}
 use Rattle.records.specs.declared.answer.Answer.{Answer}
 use Rattle.records.specs.declared.answer.Answer.TheVariants.{Yes}
-use Rattle.records.specs.declared.answer.Stepped.{Stepped}
 use Rattle.records.specs.declared.answer.Stepped.TheVariants.{Ended}
 use Rattle.records.specs.declared.outcome.Outcome.{Outcome}
 use Rattle.records.specs.declared.outcome.Outcome.TheVariants.{Ends, Retires}
@@ -13,9 +12,9 @@ use Rattle.records.specs.declared.record.Phase.TheVariants.{Enter, Down, Check, 
 use Rattle.records.specs.declared.record.Task.{Task}
 use Rattle.records.specs.declared.record.Work.{Work}
 use Rattle.records.specs.declared.record.Work.TheVariants.{Put, Strike, Look, First as FirstWork, After}
-use Rattle.promises.specs.Books.{Book, keys, work_at}
+use Rattle.promises.specs.Books.{Book, keys}
 use Rattle.promises.specs.Promised.{is_change, IsChangeDone, EndsWith, ChangesOnce}
-use Rattle.promises.specs.Runs.{Call, Reply, Does, Run, step, stepped, is_step_of, same_keys, changes_now, changed_times}
+use Rattle.promises.specs.Runs.{Run, step, stepped, same_keys, changes_now, changed_times}
 use Rattle.promises.proofs.Laws.{Laws}
 use Rattle.promises.proofs.Sights.{Sight, sight_of}
 use Rattle.promises.proofs.Settles.{Settling}

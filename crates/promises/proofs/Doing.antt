@@ -1,5 +1,5 @@
 -- How the phase of a work tells whether it has changed the keys yet, over every way that a rule can go. Assumes nothing.
-use Rattle.std.proofs.Common.{◌≡◌, ℕ, Bool, true, false, ◌⊎◌, Ordering, sym, refl, ap, ◌∙◌, inl, inr, true≢false, arith}
+use Rattle.std.proofs.Common.{◌≡◌, ℕ, Bool, true, false, Ordering, sym, refl, ap, ◌∙◌, true≢false, arith}
 use Rattle.records.specs.declared.answer.Answer.{Answer}
 use Rattle.records.specs.declared.answer.Answer.TheVariants.{Yes}
 use Rattle.records.specs.declared.outcome.Outcome.{Outcome}

@@ -1,5 +1,5 @@
 -- What an accepted rule found: the places that it needed are there, and what it read is what is seen. Assumes nothing.
-use Rattle.std.proofs.Common.{◌≡◌, ℕ, ◌<◌, Bool, true, false, cond, not, ◌||◌, eqb, ltb, List, [], ◌∷◌, length, None, Ok, Err, Result, Ordering, Less, Greater, sym, refl, ap, ◌∙◌, arith}
+use Rattle.std.proofs.Common.{◌≡◌, ℕ, ◌<◌, Bool, true, false, cond, eqb, ltb, List, [], ◌∷◌, length, None, Ok, Err, Result, Ordering, Less, Greater, sym, refl, ap, arith}
 use Rattle.std.proofs.lemmas.Bool.{ltb-true}
 use Rattle.std.proofs.lemmas.Bool.Decides.{nat_tests}
 use Rattle.std.specs.List.{slice_get}
@@ -10,11 +10,11 @@ use Rattle.records.specs.declared.outcome.Outcome.{Outcome}
 use Rattle.records.specs.declared.record.Place.{Place}
 use Rattle.records.specs.declared.record.Station.{Station}
 use Rattle.records.specs.declared.record.Status.TheVariants.{Free}
-use Rattle.records.specs.Records.{Ruled, place, needing, standing, standing_at}
+use Rattle.records.specs.Records.{Ruled, place, needing, standing_at}
 use Rattle.rules.specs.Stepping.{Turn, reads, writes, guides}
 use Rattle.engine.specs.Contents.{field_of}
 use Rattle.promises.proofs.Laws.{compared, bottom, exact, top}
-use Rattle.promises.proofs.Sights.{Sight, sight, guide_put, field_read}
+use Rattle.promises.proofs.Sights.{sight, guide_put, field_read}
 
 pub never_ok : {A E P : Type 0} (e : E) (a : A) → ◌≡◌ {A = Result A E} (Err e) (Ok a) → P
 never_ok e a h = let no : ◌≡◌ {A = ℕ} 0 1 = cc in absurd (omega arith)

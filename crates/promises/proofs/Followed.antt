@@ -6,8 +6,8 @@ use Rattle.records.specs.declared.answer.Stepped.TheVariants.{Waits}
 use Rattle.records.specs.declared.record.Task.{Task}
 use Rattle.records.specs.declared.record.Work.TheVariants.{Look}
 use Rattle.promises.specs.Books.{Book}
-use Rattle.promises.specs.Promised.{UnderWay, OnlyOwnKeysChange, NothingIsDamaged, IdleBooksAreTidy, StatusesAreTrue, SomeoneCanGoOn}
-use Rattle.promises.specs.Runs.{Run, Does, next, step, stepped}
+use Rattle.promises.specs.Promised.{UnderWay, NothingIsDamaged, IdleBooksAreTidy, StatusesAreTrue, SomeoneCanGoOn}
+use Rattle.promises.specs.Runs.{Run, Does, step, stepped}
 use Rattle.promises.proofs.Laws.{Laws}
 use Rattle.promises.proofs.Sights.{sight_of}
 use Rattle.promises.proofs.Invariant.{Inv}

@@ -1,21 +1,19 @@
 -- What a work under way may say of the past: a place that was on the chain since the work began has its key still, and is
 -- on the chain now, or was struck since, and its links are those of its last moment on the chain. Assumes the invariant of
 -- every book of a run.
-use Rattle.std.proofs.Common.{◌≡◌, ℕ, zero, suc, Bool, true, false, cond, ◌⊎◌, List, [], ◌∷◌, map, length, get_or, is_some, Some, None, Ok, Err, Option, Result, Ordering, sym, refl, ap, ◌∙◌, subst, inl, inr}
+use Rattle.std.proofs.Common.{◌≡◌, ℕ, zero, suc, Bool, true, false, cond, ◌⊎◌, List, [], ◌∷◌, length, get_or, is_some, None, Ok, Err, Result, Ordering, sym, refl, ap, ◌∙◌, subst, inl, inr}
 use Rattle.std.proofs.lemmas.Bool.{true≢false}
 use Rattle.guides.specs.declared.answer.GuideRefusal.{GuideRefusal}
 use Rattle.guides.specs.Meaning.{Meaning}
 use Rattle.guides.specs.Rules.{clearing}
-use Rattle.records.specs.declared.answer.Refusal.{Refusal}
 use Rattle.records.specs.declared.answer.Refusal.TheVariants.{BadCount, Guide}
 use Rattle.records.specs.declared.record.Place.{Place}
 use Rattle.records.specs.declared.record.Station.{Station}
-use Rattle.records.specs.declared.record.Task.{Task}
 use Rattle.engine.specs.Calling.{Opened, opening, opening_by, opened_stations, bad_count, served, task_at}
 use Rattle.engine.specs.Settling.{idle}
-use Rattle.promises.specs.Books.{Book, work_at}
+use Rattle.promises.specs.Books.{Book}
 use Rattle.promises.specs.Runs.{Call, Reply, Does, Run, opened, next, works_in, for_work, since}
-use Rattle.promises.proofs.Sights.{Sight, sight_of}
+use Rattle.promises.proofs.Sights.{sight_of}
 use Rattle.promises.proofs.Finds.{never_ok, same_ok}
 use Rattle.promises.proofs.Invariant.{Inv, chained}
 use Rattle.promises.proofs.Keeps.{Off, Cut, FromOn, FromOff}

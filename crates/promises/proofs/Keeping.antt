@@ -1,21 +1,11 @@
 -- That every accepted step keeps the invariant. Assumes the laws.
-use Rattle.std.proofs.Common.{◌≡◌, ℕ, ◌+◌, ◌<◌, ◌≤◌, Bool, true, false, cond, not, ◌&&◌, ◌||◌, eqb, ltb, leb, ◌⊎◌, List, [], ◌∷◌, get_or, is_some, Some, None, Option, Ordering, sym, refl, ap, ◌∙◌, subst, inl, inr, arith}
-use Rattle.std.proofs.lemmas.Bool.{eqb-true, eqb-false, eq-eqb, ne_eqb, or_left, or_right, or_cases, and_parts}
-use Rattle.std.proofs.lemmas.Bool.Decides.{nat_tests}
-use Rattle.guides.specs.Meaning.{low, high, has}
-use Rattle.records.specs.declared.record.Phase.{Phase}
-use Rattle.records.specs.declared.record.Phase.TheVariants.{Enter, Down, Check, Back, On, Seek, Lock, Valid, Take, Link, LinkBack, Attach, ReleaseNew, PutEnd, TakeVictim, Mark, UnlinkBack, Unlink, Detach, ReleaseVictim, StrikeEnd, First, FirstNext}
-use Rattle.records.specs.declared.record.Status.{Status}
-use Rattle.records.specs.declared.record.Status.TheVariants.{Free, InHand, Chained, Retired}
+use Rattle.std.proofs.Common.{◌≡◌, ℕ, ◌<◌, Bool, true, false, is_some, Some, Ordering, sym, refl, ap, ◌∙◌, subst, arith}
+use Rattle.records.specs.declared.record.Phase.TheVariants.{Link, LinkBack, Detach}
 use Rattle.records.specs.declared.record.Task.{Task}
-use Rattle.records.specs.declared.record.Work.{Work}
-use Rattle.records.specs.declared.record.Work.TheVariants.{Put, Strike, Look, First as FirstWork, After}
-use Rattle.engine.specs.Calling.{locked_by}
-use Rattle.promises.specs.Promised.{is_chained}
-use Rattle.promises.proofs.Laws.{Laws, Bound, bottom, exact, top, before}
+use Rattle.promises.proofs.Laws.{Laws}
 use Rattle.records.specs.declared.answer.Stepped.{Stepped}
 use Rattle.records.specs.declared.outcome.Outcome.{Outcome}
-use Rattle.records.specs.declared.outcome.Outcome.TheVariants.{Goes, Waits, Ends, Retires}
+use Rattle.records.specs.declared.outcome.Outcome.TheVariants.{Goes}
 use Rattle.records.specs.Records.{into, with_other}
 use Rattle.engine.specs.Settling.{most_stations, counted, with_steps, retired_for as rests}
 use Rattle.promises.proofs.Sights.{Sight, task_put}

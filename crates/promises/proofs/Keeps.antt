@@ -1,19 +1,19 @@
 -- What a rule leaves alone: places of the chain, and places that were struck and wait for a work. Assumes the invariant.
-use Rattle.std.proofs.Common.{◌≡◌, ℕ, ◌<◌, ◌≤◌, Bool, true, false, cond, eqb, leb, ◌⊎◌, get_or, Ordering, sym, refl, ap, ◌∙◌, subst, inl, inr, arith}
-use Rattle.std.proofs.lemmas.Bool.{true≢false, eqb-true, eq-eqb, ne_eqb, cond-true, cond-false, cases_eq, cases_Bool}
+use Rattle.std.proofs.Common.{◌≡◌, ℕ, Bool, true, false, cond, eqb, leb, ◌⊎◌, Ordering, sym, refl, ap, ◌∙◌, subst, inl, inr, arith}
+use Rattle.std.proofs.lemmas.Bool.{true≢false, eq-eqb, ne_eqb, cond-true, cond-false, cases_eq}
 use Rattle.guides.specs.Meaning.{high}
 use Rattle.records.specs.declared.outcome.Outcome.{Outcome}
 use Rattle.records.specs.declared.record.Phase.{Phase}
-use Rattle.records.specs.declared.record.Phase.TheVariants.{Link, LinkBack, Mark, UnlinkBack, Unlink, StrikeEnd}
+use Rattle.records.specs.declared.record.Phase.TheVariants.{Link, LinkBack, UnlinkBack, Unlink}
 use Rattle.records.specs.declared.record.Place.{Place}
 use Rattle.records.specs.declared.record.Status.{Status}
 use Rattle.records.specs.declared.record.Status.TheVariants.{Free, InHand, Chained, Retired}
 use Rattle.records.specs.declared.record.Task.{Task}
 use Rattle.promises.specs.Promised.{is_chained}
-use Rattle.promises.proofs.Laws.{Bound, bottom, exact, top, before}
+use Rattle.promises.proofs.Laws.{exact, before}
 use Rattle.promises.proofs.Sights.{Sight, at_with, next_put, prev_put, mark_put, status_put, filled}
 use Rattle.promises.proofs.Invariant.{Inv, Stands, rung, group, is_placed, is_joined, is_keyed, is_marked, is_spared, is_handing, waits_for, chained}
-use Rattle.promises.proofs.Touches.{Touch, Still, is_retiring}
+use Rattle.promises.proofs.Touches.{Touch, Still}
 
 -- ---- reading a function with another value at one number
 

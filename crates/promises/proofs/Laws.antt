@@ -1,6 +1,6 @@
 -- The laws of an order of keys, and what follows for the keys of places with one key below and one above all others.
 -- Assumes the laws.
-use Rattle.std.proofs.Common.{◌≡◌, ℕ, Bool, true, false, Ordering, Less, Equal, Greater, sym, refl, ap, ◌∙◌, arith}
+use Rattle.std.proofs.Common.{◌≡◌, Bool, true, false, Ordering, Less, Equal, Greater, sym, refl, ap, ◌∙◌}
 use Rattle.std.specs.Ordering.{ordering_reverse, is_lt}
 
 pub record Laws {K : Type 0} (rank : K → K → Ordering) : Type 0 where

@@ -1,13 +1,11 @@
 -- That only LOCK and TAKE-VICTIM wait, so that a look never does. Assumes the invariant of every book of a run.
-use Rattle.std.proofs.Common.{◌≡◌, ℕ, Bool, true, false, ◌⊎◌, Some, Ok, Ordering, sym, refl, ap, ◌∙◌, inl, inr, arith}
+use Rattle.std.proofs.Common.{◌≡◌, ℕ, Bool, true, false, ◌⊎◌, Ok, Ordering, sym, refl, ap, ◌∙◌, inl, inr, arith}
 use Rattle.std.proofs.lemmas.Bool.{true≢false}
 use Rattle.records.specs.declared.answer.Stepped.TheVariants.{Waits as Waited}
 use Rattle.records.specs.declared.outcome.Outcome.{Outcome}
 use Rattle.records.specs.declared.outcome.Outcome.TheVariants.{Goes, Waits, Ends, Retires}
-use Rattle.records.specs.declared.record.Phase.{Phase}
 use Rattle.records.specs.declared.record.Phase.TheVariants.{Lock, TakeVictim}
 use Rattle.records.specs.declared.record.Task.{Task}
-use Rattle.records.specs.declared.record.Work.{Work}
 use Rattle.records.specs.declared.record.Work.TheVariants.{Look}
 use Rattle.promises.specs.Books.{Book}
 use Rattle.promises.specs.Promised.{UnderWay}
@@ -15,7 +13,7 @@ use Rattle.promises.specs.Runs.{Run, Does, step, stepped}
 use Rattle.promises.proofs.Sights.{Sight, sight_of}
 use Rattle.promises.proofs.Views.{Way}
 use Rattle.promises.proofs.Settles.{Settling}
-use Rattle.promises.proofs.Accepted.{Made, accepted_step_made}
+use Rattle.promises.proofs.Accepted.{accepted_step_made}
 use Rattle.promises.proofs.Invariant.{Inv, fits, group}
 use Rattle.promises.proofs.Works.{some_injects}
 

@@ -1,20 +1,17 @@
 -- That a look never waits and ends in time. Assumes the laws of the order, the invariant of every book of a run, and that the
 -- predecessor of a place of the chain is on the chain and lies below it.
-use Rattle.std.proofs.Common.{◌≡◌, ℕ, ◌+◌, ◌*◌, ◌<◌, ◌≤◌, Bool, true, false, cond, ◌⊎◌, List, [], ◌∷◌, length, is_some, Some, None, Ordering, sym, refl, ap, ◌∙◌, subst, inl, inr, arith}
-use Rattle.std.proofs.lemmas.Bool.{true≢false}
-use Rattle.guides.specs.Meaning.{low, high}
+use Rattle.std.proofs.Common.{◌≡◌, ℕ, ◌+◌, ◌*◌, ◌<◌, Bool, true, false, cond, ◌⊎◌, List, ◌∷◌, length, is_some, Some, Ordering, sym, refl, ap, ◌∙◌, subst, inl, inr, arith}
+use Rattle.guides.specs.Meaning.{low}
 use Rattle.records.specs.declared.answer.Stepped.{Stepped}
 use Rattle.records.specs.declared.outcome.Outcome.TheVariants.{Goes, Waits}
-use Rattle.records.specs.declared.record.Phase.{Phase}
-use Rattle.records.specs.declared.record.Phase.TheVariants.{Enter, Back, On, First}
+use Rattle.records.specs.declared.record.Phase.TheVariants.{Enter, Back, On}
 use Rattle.records.specs.declared.record.Task.{Task}
 use Rattle.records.specs.declared.record.Work.{Work}
 use Rattle.records.specs.declared.record.Work.TheVariants.{Look}
 use Rattle.records.specs.Records.{first_phase}
-use Rattle.engine.specs.Calling.{begun}
 use Rattle.engine.specs.Settling.{with_await}
 use Rattle.promises.specs.Books.{Book, work_at}
-use Rattle.promises.specs.Promised.{LooksEnd, UnderWay}
+use Rattle.promises.specs.Promised.{LooksEnd}
 use Rattle.promises.specs.Runs.{Call, Reply, Does, Run, opened, next, works_in, for_work, since, given_steps, is_step_of}
 use Rattle.promises.proofs.Laws.{Laws, before}
 use Rattle.promises.proofs.Sights.{Sight, sight_of}

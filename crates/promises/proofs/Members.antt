@@ -1,21 +1,20 @@
 -- The keys of a book are those that stand at unmarked places of its chain, and rising keys with the same members are the same.
 -- Assumes the laws of the order and the invariant.
-use Rattle.std.proofs.Common.{◌≡◌, ℕ, ◌<◌, ◌≤◌, Bool, true, false, cond, ◌||◌, eqb, ◌⊎◌, List, [], ◌∷◌, length, Some, None, Option, Ordering, Less, Equal, Greater, sym, refl, ap, ◌∙◌, subst, inl, inr, arith}
-use Rattle.std.proofs.lemmas.Option.{slice_get_past}
+use Rattle.std.proofs.Common.{◌≡◌, ℕ, ◌≤◌, Bool, true, false, cond, ◌||◌, eqb, ◌⊎◌, List, [], ◌∷◌, Some, None, Option, Ordering, Less, Greater, sym, refl, ap, ◌∙◌, subst, inl, inr, arith}
 use Rattle.std.proofs.lemmas.Bool.{or_left, or_right, eq-eqb, eqb-true}
 use Rattle.std.proofs.lemmas.Bool.Decides.{nat_tests}
 use Rattle.std.specs.List.{slice_get}
-use Rattle.std.specs.Ordering.{is_lt, ordering_reverse}
+use Rattle.std.specs.Ordering.{ordering_reverse}
 use Rattle.guides.specs.Meaning.{Meaning, low, high, has}
 use Rattle.records.specs.declared.record.Place.{Place}
 use Rattle.records.specs.declared.record.Station.{Station}
 use Rattle.engine.specs.Contents.{chain, field_of, with_key, keys_of, contents}
 use Rattle.promises.specs.Truths.{Holds, Rises}
 use Rattle.promises.proofs.Laws.{Laws, Bound, bottom, exact, top}
-use Rattle.promises.proofs.Sights.{Sight, own_spot, sight}
-use Rattle.promises.proofs.Invariant.{Inv, chained}
+use Rattle.promises.proofs.Sights.{own_spot, sight}
+use Rattle.promises.proofs.Invariant.{Inv}
 use Rattle.promises.proofs.Chains.{chain_inner, chain_has}
-use Rattle.promises.proofs.Listed.{spot_of_key, keys_rise}
+use Rattle.promises.proofs.Listed.{spot_of_key}
 use Rattle.promises.proofs.Owned.{Kept}
 
 neither : (p : ℕ) → eqb p low ≡ false → eqb p high ≡ false → 2 ≤ p

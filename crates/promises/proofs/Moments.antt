@@ -1,6 +1,6 @@
 -- Which keys a book holds, told from one link or one place of its chain, and that the successor of a place whose lock is
 -- held for VALID is not marked. Assumes the invariant, and that the keys are those of the unmarked places of the chain.
-use Rattle.std.proofs.Common.{◌≡◌, ℕ, Bool, true, false, cond, not, ◌&&◌, ◌||◌, eqb, leb, ◌⊎◌, Some, None, Option, Ordering, Less, Equal, Greater, sym, refl, ap, ◌∙◌, subst, inl, inr, arith}
+use Rattle.std.proofs.Common.{◌≡◌, ℕ, Bool, true, false, ◌&&◌, eqb, leb, ◌⊎◌, Some, None, Option, Ordering, Less, Equal, Greater, sym, refl, ap, ◌∙◌, inl, inr, arith}
 use Rattle.std.proofs.lemmas.Bool.{true≢false, eqb-true, eq-eqb, and_parts, and_from, or_left}
 use Rattle.std.proofs.lemmas.Bool.Decides.{nat_tests}
 use Rattle.std.specs.Ordering.{is_lt}
@@ -12,7 +12,7 @@ use Rattle.engine.specs.Calling.{locked_by}
 use Rattle.promises.specs.Books.{Book, keys}
 use Rattle.promises.specs.Promised.{is_chained}
 use Rattle.promises.specs.Truths.{Holds, Smallest, SmallestAbove}
-use Rattle.promises.proofs.Laws.{Laws, Bound, bottom, exact, top, before, before_once, before_not_self, before_chains, before_neither}
+use Rattle.promises.proofs.Laws.{Laws, Bound, bottom, exact, before, before_once, before_not_self, before_chains, before_neither}
 use Rattle.promises.proofs.Sights.{Sight, sight_of}
 use Rattle.promises.proofs.Invariant.{Inv, chained, rung, group, is_placed, is_joined, is_striking, holds_at, holds_other, holds, other_in}
 use Rattle.promises.proofs.Works.{some_injects}

@@ -1,28 +1,22 @@
 -- A put or a strike changes the keys at just one of its steps, and every other work at none. Assumes the laws of the order, and
 -- the invariant of every book of a run.
-use Rattle.std.proofs.Common.{◌≡◌, ℕ, ◌+◌, ◌≤◌, Bool, true, false, cond, not, ◌&&◌, ◌⊎◌, List, [], ◌∷◌, is_some, Some, None, Ok, Option, Ordering, Less, Equal, Greater, sym, refl, ap, ◌∙◌, subst, inl, inr, true≢false, arith}
+use Rattle.std.proofs.Common.{◌≡◌, ℕ, ◌+◌, Bool, true, false, cond, not, ◌&&◌, ◌⊎◌, List, [], ◌∷◌, is_some, Some, Ordering, Less, Equal, Greater, sym, refl, ap, ◌∙◌, subst, inl, inr, true≢false, arith}
 use Rattle.std.proofs.lemmas.Bool.{and_parts}
 use Rattle.std.specs.Ordering.{is_eq, ordering_reverse}
-use Rattle.records.specs.declared.answer.Answer.{Answer}
-use Rattle.records.specs.declared.answer.Answer.TheVariants.{Yes}
 use Rattle.records.specs.declared.answer.Stepped.{Stepped}
-use Rattle.records.specs.declared.answer.Stepped.TheVariants.{Ended}
-use Rattle.records.specs.declared.outcome.Outcome.{Outcome}
-use Rattle.records.specs.declared.outcome.Outcome.TheVariants.{Goes, Waits, Ends, Retires}
+use Rattle.records.specs.declared.outcome.Outcome.TheVariants.{Goes, Waits}
 use Rattle.records.specs.declared.record.Phase.{Phase}
 use Rattle.records.specs.declared.record.Phase.TheVariants.{Enter, Down, Check, Back, On, Seek, Lock, Valid, Take, Link, LinkBack, Attach, ReleaseNew, PutEnd, TakeVictim, Mark, UnlinkBack, Unlink, Detach, ReleaseVictim, StrikeEnd, First, FirstNext}
 use Rattle.records.specs.declared.record.Task.{Task}
-use Rattle.records.specs.declared.record.Work.{Work}
 use Rattle.promises.specs.Books.{Book, keys, work_at}
 use Rattle.promises.specs.Truths.{Holds, Adds}
-use Rattle.promises.specs.Runs.{Call, Reply, Does, Run, opened, next, step, stepped, is_step_of, same_keys, for_work, works_in, changes_now, changed_times}
+use Rattle.promises.specs.Runs.{Call, Reply, Run, opened, next, same_keys, for_work, works_in, changes_now, changed_times}
 use Rattle.promises.proofs.Laws.{Laws}
-use Rattle.promises.proofs.Sights.{Sight, sight_of}
-use Rattle.promises.proofs.Settles.{Settling}
+use Rattle.promises.proofs.Sights.{sight_of}
 use Rattle.promises.proofs.Accepted.{Made}
 use Rattle.promises.proofs.Invariant.{Inv}
 use Rattle.promises.proofs.Owned.{SameKept, KeepsMore, Effect, link_adds, mark_takes}
-use Rattle.promises.proofs.OwnKeys.{link_puts, mark_strikes, more_then_same, fewer_then_same, settling_same, step_effect, same_contents, more_contents}
+use Rattle.promises.proofs.OwnKeys.{more_then_same, fewer_then_same, settling_same, step_effect, same_contents, more_contents}
 use Rattle.promises.proofs.Passes.{retired_in_hand}
 use Rattle.promises.proofs.Hindsight.{none_works_opened}
 use Rattle.promises.proofs.Works.{Comes, call_comes, none_not_some}

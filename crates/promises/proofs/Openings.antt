@@ -1,28 +1,22 @@
 -- That the book which an accepted open leaves has the invariant. Assumes nothing.
-use Rattle.std.proofs.Common.{◌≡◌, ℕ, zero, suc, ◌+◌, ◌<◌, ◌≤◌, Bool, true, false, cond, not, ◌&&◌, ◌||◌, eqb, ltb, leb, ◌⊎◌, List, [], ◌∷◌, map, length, get_or, Some, None, Ok, Err, Option, Result, Ordering, sym, refl, ap, ◌∙◌, subst, inl, inr, arith}
-use Rattle.std.proofs.lemmas.Bool.{eqb-true, eqb-false, eq-eqb, ne_eqb, or_left, or_right, or_cases, and_parts}
+use Rattle.std.proofs.Common.{◌≡◌, ℕ, zero, suc, Bool, true, false, cond, not, ◌&&◌, ◌||◌, eqb, ltb, ◌⊎◌, List, [], ◌∷◌, map, length, get_or, Some, None, Ok, Err, Option, Ordering, sym, refl, ap, ◌∙◌, subst, inl, inr, arith}
+use Rattle.std.proofs.lemmas.Bool.{eqb-true}
 use Rattle.std.proofs.lemmas.Bool.Decides.{nat_tests}
 use Rattle.guides.specs.Meaning.{low, high, has}
-use Rattle.records.specs.declared.record.Phase.{Phase}
-use Rattle.records.specs.declared.record.Phase.TheVariants.{Enter, Down, Check, Back, On, Seek, Lock, Valid, Take, Link, LinkBack, Attach, ReleaseNew, PutEnd, TakeVictim, Mark, UnlinkBack, Unlink, Detach, ReleaseVictim, StrikeEnd, First, FirstNext}
 use Rattle.records.specs.declared.record.Status.{Status}
 use Rattle.records.specs.declared.record.Status.TheVariants.{Free, InHand, Chained, Retired}
 use Rattle.records.specs.declared.record.Task.{Task}
-use Rattle.records.specs.declared.record.Work.{Work}
-use Rattle.records.specs.declared.record.Work.TheVariants.{Put, Strike, Look, First as FirstWork, After}
 use Rattle.engine.specs.Calling.{locked_by}
 use Rattle.promises.specs.Promised.{is_chained}
-use Rattle.promises.proofs.Laws.{Laws, Bound, bottom, exact, top, before}
+use Rattle.promises.proofs.Laws.{bottom, top, before}
 use Rattle.std.specs.List.{slice_get}
 use Rattle.std.proofs.lemmas.List.{length-map}
 use Rattle.guides.specs.declared.answer.GuideRefusal.TheVariants.{SmallGuide}
-use Rattle.guides.specs.Meaning.{Meaning}
 use Rattle.guides.specs.Rules.{cleared, clearing}
-use Rattle.records.specs.declared.answer.Refusal.{Refusal}
 use Rattle.records.specs.declared.answer.Refusal.TheVariants.{BadCount, Guide}
 use Rattle.records.specs.declared.record.Place.{Place}
 use Rattle.records.specs.declared.record.Station.{Station}
-use Rattle.engine.specs.Calling.{Opened, bad_count, opening, opening_by, end_place, vacated, opened_places, opened_stations, served, task_at}
+use Rattle.engine.specs.Calling.{Opened, bad_count, opening, opening_by, vacated, opened_places, opened_stations, served, task_at}
 use Rattle.engine.specs.Contents.{field_of}
 use Rattle.engine.specs.Settling.{idle}
 use Rattle.promises.proofs.Sights.{Sight, sight}

@@ -1,24 +1,15 @@
 -- That the end of a work which holds no lock keeps the invariant. Assumes nothing.
-use Rattle.std.proofs.Common.{◌≡◌, ℕ, zero, suc, ◌+◌, ◌<◌, ◌≤◌, Bool, true, false, cond, not, ◌&&◌, ◌||◌, eqb, ltb, leb, ◌⊎◌, List, [], ◌∷◌, get_or, set, Some, None, Option, Ordering, sym, refl, ap, ◌∙◌, subst, inl, inr, arith}
-use Rattle.std.proofs.lemmas.Bool.{eqb-true, eqb-false, eq-eqb, ne_eqb, or_left, or_right, or_cases, and_parts}
-use Rattle.std.proofs.lemmas.Bool.Decides.{nat_tests}
-use Rattle.guides.specs.Meaning.{low, high, has}
-use Rattle.records.specs.declared.record.Phase.{Phase}
-use Rattle.records.specs.declared.record.Phase.TheVariants.{Enter, Down, Check, Back, On, Seek, Lock, Valid, Take, Link, LinkBack, Attach, ReleaseNew, PutEnd, TakeVictim, Mark, UnlinkBack, Unlink, Detach, ReleaseVictim, StrikeEnd, First, FirstNext}
+use Rattle.std.proofs.Common.{◌≡◌, ℕ, zero, suc, Bool, true, false, cond, not, ◌&&◌, ◌||◌, eqb, List, [], ◌∷◌, get_or, set, Some, None, Ordering, sym, refl, ap, ◌∙◌, subst, arith}
 use Rattle.records.specs.declared.record.Status.{Status}
 use Rattle.records.specs.declared.record.Status.TheVariants.{Free, InHand, Chained, Retired}
 use Rattle.records.specs.declared.record.Task.{Task}
-use Rattle.records.specs.declared.record.Work.{Work}
-use Rattle.records.specs.declared.record.Work.TheVariants.{Put, Strike, Look, First as FirstWork, After}
-use Rattle.engine.specs.Calling.{locked_by}
 use Rattle.promises.specs.Promised.{is_chained}
-use Rattle.promises.proofs.Laws.{Laws, Bound, bottom, exact, top, before}
 use Rattle.std.proofs.lemmas.List.{get_or-set_other}
-use Rattle.engine.specs.Settling.{anyone, retired_for as rests, without_station}
+use Rattle.engine.specs.Settling.{anyone, without_station}
 use Rattle.promises.proofs.Sights.{Sight, at_with, task_put}
 use Rattle.promises.proofs.Writes.{alike}
 use Rattle.promises.proofs.Settles.{work_over}
-use Rattle.promises.proofs.Invariant.{rung, group, fits, is_lagging, is_hiding, is_detaching, is_striking, is_handing, waits_for, holds, other_in, is_awaited, holder_in, chained, seen_by, Stands, Inv}
+use Rattle.promises.proofs.Invariant.{rung, is_lagging, is_hiding, is_detaching, is_striking, is_handing, waits_for, holds, is_awaited, holder_in, chained, seen_by, Inv}
 use Rattle.promises.proofs.Retasks.{at_with_both, other_in_same, holder_same, Like, Loose, none_loose, task_loose, loose_like, retask}
 use Rattle.promises.proofs.Sees.{never}
 

@@ -1,11 +1,9 @@
 -- Only a worker's own key changes. Assumes the laws of the order, and the invariant of every book of a run.
-use Rattle.std.proofs.Common.{◌≡◌, ℕ, Bool, true, false, cond, ◌⊎◌, List, Some, None, Ok, Err, Option, Result, Ordering, sym, refl, ap, ◌∙◌, subst, inl, inr, arith}
+use Rattle.std.proofs.Common.{◌≡◌, ℕ, Bool, true, false, ◌⊎◌, List, Some, Option, Ordering, sym, refl, ap, ◌∙◌, subst, inl, inr}
 use Rattle.guides.specs.Meaning.{Meaning}
-use Rattle.records.specs.declared.answer.Refusal.{Refusal}
 use Rattle.records.specs.declared.answer.Stepped.{Stepped}
 use Rattle.records.specs.declared.outcome.Outcome.{Outcome}
 use Rattle.records.specs.declared.outcome.Outcome.TheVariants.{Retires}
-use Rattle.records.specs.declared.record.Phase.TheVariants.{Link, Mark}
 use Rattle.records.specs.declared.record.Place.{Place}
 use Rattle.records.specs.declared.record.Station.{Station}
 use Rattle.records.specs.declared.record.Status.TheVariants.{InHand}
@@ -15,9 +13,9 @@ use Rattle.records.specs.declared.record.Work.TheVariants.{Put, Strike, Look, Fi
 use Rattle.engine.specs.Contents.{contents}
 use Rattle.engine.specs.Settling.{retired_for as rests}
 use Rattle.promises.specs.Books.{Book, keys, work_at}
-use Rattle.promises.specs.Truths.{Holds, Adds, TakesAway, Rises}
+use Rattle.promises.specs.Truths.{Adds}
 use Rattle.promises.specs.Promised.{is_chained, ChangesItsKey, OnlyOwnKeysChange}
-use Rattle.promises.specs.Runs.{Call, Reply, Does, Run, step}
+use Rattle.promises.specs.Runs.{Call, Reply, Run, step}
 use Rattle.promises.proofs.Laws.{Laws}
 use Rattle.promises.proofs.Sights.{Sight, sight, sight_of, task_put}
 use Rattle.promises.proofs.Settles.{Settling, work_over, retire_put}
@@ -26,7 +24,7 @@ use Rattle.promises.proofs.Invariant.{Inv, chained, group, fits}
 use Rattle.promises.proofs.Listed.{keys_rise}
 use Rattle.promises.proofs.Passes.{over_chained, retired_chain, retired_in_hand, step_touches}
 use Rattle.promises.proofs.Calls.{Did, call_did}
-use Rattle.promises.proofs.Owned.{Kept, SameKept, KeepsMore, Effect, same_reads, rule_effect}
+use Rattle.promises.proofs.Owned.{SameKept, KeepsMore, Effect, same_reads, rule_effect}
 use Rattle.promises.proofs.Members.{held_is_kept, kept_is_held, rises_same}
 
 module _ {K : Type 0} where

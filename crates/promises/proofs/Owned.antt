@@ -1,18 +1,16 @@
 -- What an accepted step makes of the keys that stand at unmarked places of the chain: LINK adds the key of its put, MARK takes
 -- the key of its strike away, and nothing else changes them. Assumes the laws of the order and the invariant.
-use Rattle.std.proofs.Common.{◌≡◌, ℕ, Bool, true, false, eqb, leb, ◌⊎◌, Some, Option, Ordering, sym, refl, ap, ◌∙◌, subst, inl, inr, arith}
+use Rattle.std.proofs.Common.{◌≡◌, ℕ, Bool, true, false, leb, ◌⊎◌, Some, Ordering, sym, refl, ap, ◌∙◌, subst, inl, inr, arith}
 use Rattle.std.proofs.lemmas.Bool.{cases_eq}
-use Rattle.guides.specs.Meaning.{low, high}
+use Rattle.guides.specs.Meaning.{high}
 use Rattle.records.specs.declared.outcome.Outcome.{Outcome}
-use Rattle.records.specs.declared.record.Phase.{Phase}
 use Rattle.records.specs.declared.record.Phase.TheVariants.{Link, Mark, Unlink}
 use Rattle.records.specs.declared.record.Place.{Place}
-use Rattle.records.specs.declared.record.Status.{Status}
 use Rattle.records.specs.declared.record.Status.TheVariants.{Free, InHand, Chained}
 use Rattle.records.specs.declared.record.Task.{Task}
 use Rattle.promises.specs.Promised.{is_chained}
-use Rattle.promises.proofs.Laws.{Laws, Bound, bottom, exact, top, before, before_not_self, before_chains}
-use Rattle.promises.proofs.Sights.{Sight, at_with, next_put, mark_put, status_put, prev_put, filled}
+use Rattle.promises.proofs.Laws.{Laws, Bound, exact, before, before_not_self, before_chains}
+use Rattle.promises.proofs.Sights.{Sight, next_put, mark_put, status_put, prev_put, filled}
 use Rattle.promises.proofs.Invariant.{Inv, Stands, chained, rung, group, is_placed, is_between, is_joined, is_keyed, is_marked, is_spared, is_handing}
 use Rattle.promises.proofs.Touches.{Touch, Still}
 use Rattle.promises.proofs.Keeps.{at_other, at_same, apart_by}

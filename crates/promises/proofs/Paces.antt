@@ -1,6 +1,6 @@
 -- How far a look has come: the places at which it went back, and those at which it went on, are as many places. Assumes the
 -- invariant at the moments of the look, hindsight for it, and that the predecessor of a place of the chain lies below it.
-use Rattle.std.proofs.Common.{◌≡◌, ℕ, suc, ◌+◌, ◌*◌, ◌<◌, ◌≤◌, Bool, true, false, cond, not, ◌&&◌, ◌||◌, eqb, ltb, ◌⊎◌, List, [], ◌∷◌, length, Some, None, Ordering, Less, Equal, Greater, sym, refl, ap, ◌∙◌, subst, inl, inr, arith}
+use Rattle.std.proofs.Common.{◌≡◌, ℕ, ◌+◌, ◌*◌, ◌<◌, ◌≤◌, Bool, true, false, not, eqb, ltb, ◌⊎◌, List, [], ◌∷◌, length, Ordering, Less, Equal, Greater, sym, refl, ap, ◌∙◌, subst, inl, inr, arith}
 use Rattle.std.proofs.lemmas.Bool.{true≢false, eqb-true, eq-eqb, or_left, or_right, or_cases, and_from, lt-ltb, not_from_false}
 use Rattle.guides.specs.Meaning.{low, high, has, distinct, all_below}
 use Rattle.guides.proofs.Pigeonhole.{distinct_below_room}
@@ -8,18 +8,17 @@ use Rattle.records.specs.declared.outcome.Outcome.{Outcome}
 use Rattle.records.specs.declared.outcome.Outcome.TheVariants.{Goes, Waits, Ends, Retires}
 use Rattle.records.specs.declared.record.Phase.{Phase}
 use Rattle.records.specs.declared.record.Phase.TheVariants.{Enter, Down, Check, Back, On, Seek, Lock, Valid, Take, Link, LinkBack, Attach, ReleaseNew, PutEnd, TakeVictim, Mark, UnlinkBack, Unlink, Detach, ReleaseVictim, StrikeEnd, First, FirstNext}
-use Rattle.records.specs.declared.record.Status.TheVariants.{Free}
 use Rattle.records.specs.declared.record.Task.{Task}
 use Rattle.records.specs.declared.record.Work.{Work}
-use Rattle.records.specs.declared.record.Work.TheVariants.{Put, Strike, Look, First as FirstWork, After}
+use Rattle.records.specs.declared.record.Work.TheVariants.{Look, After}
 use Rattle.promises.specs.Books.{Book}
 use Rattle.promises.specs.Promised.{is_chained}
-use Rattle.promises.proofs.Laws.{Laws, Bound, bottom, exact, top, before, compared, before_chains}
+use Rattle.promises.proofs.Laws.{Laws, before, compared, before_chains}
 use Rattle.promises.proofs.Sights.{Sight, sight_of}
 use Rattle.promises.proofs.Views.{Way, Strays, Changes}
 use Rattle.promises.proofs.Invariant.{Inv, chained, fits, group, waits_for}
 use Rattle.promises.proofs.Hindsight.{Among, Struck, Remembers}
-use Rattle.promises.proofs.Walked.{Known, Moment, moment}
+use Rattle.promises.proofs.Walked.{Known, moment}
 use Rattle.promises.proofs.Moments.{never_self}
 
 module _ {K : Type 0} (rank : K → K → Ordering) where

@@ -1,10 +1,9 @@
 -- What an accepted step, a begin and a leave make of the places of the chain and of the struck places that wait for a work
 -- under way, and which places come to the chain. Assumes the invariant.
-use Rattle.std.proofs.Common.{◌≡◌, ℕ, zero, suc, ◌<◌, ◌≤◌, Bool, true, false, cond, not, ◌&&◌, ◌||◌, eqb, leb, ◌⊎◌, List, [], ◌∷◌, length, get_or, set, is_some, Some, None, Option, Ordering, sym, refl, ap, ◌∙◌, subst, inl, inr, arith}
+use Rattle.std.proofs.Common.{◌≡◌, ℕ, zero, suc, ◌<◌, Bool, true, false, cond, not, ◌&&◌, ◌||◌, eqb, ◌⊎◌, List, [], ◌∷◌, get_or, set, is_some, Some, None, Option, Ordering, sym, refl, ap, ◌∙◌, subst, inl, inr, arith}
 use Rattle.std.proofs.lemmas.List.{get_or-set_other}
 use Rattle.std.proofs.lemmas.Option.{slice_get-get_or}
 use Rattle.std.proofs.lemmas.Bool.{true≢false, ne_eqb, cases_eq, or_right}
-use Rattle.std.specs.List.{slice_get}
 use Rattle.records.specs.declared.answer.Stepped.{Stepped}
 use Rattle.records.specs.declared.outcome.Outcome.{Outcome}
 use Rattle.records.specs.declared.outcome.Outcome.TheVariants.{Retires}
@@ -18,7 +17,7 @@ use Rattle.promises.proofs.Sights.{Sight, at_with, task_put}
 use Rattle.promises.proofs.Settles.{Settling, Others, work_over, retire_put}
 use Rattle.promises.proofs.Accepted.{Made}
 use Rattle.promises.proofs.Invariant.{Inv, rung, is_handing, waits_for, chained}
-use Rattle.promises.proofs.Touches.{Touch, Still, is_retiring, way_touches}
+use Rattle.promises.proofs.Touches.{Touch, is_retiring, way_touches}
 use Rattle.promises.proofs.Keeps.{Off, Cut, FromOn, FromOff, Joins, at_other, at_same, rule_keeps_on, rule_keeps_off, rule_joins}
 
 -- ---- the set of stations that a retired place waits for

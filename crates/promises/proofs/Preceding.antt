@@ -1,12 +1,12 @@
 -- The predecessor of a place of the chain is on the chain, below it. Assumes the laws of the order and the invariant.
-use Rattle.std.proofs.Common.{◌≡◌, ℕ, Bool, true, false, cond, ◌&&◌, ◌||◌, eqb, leb, Some, None, Option, Ordering, sym, refl, ap, ◌∙◌, subst, true≢false, arith}
+use Rattle.std.proofs.Common.{◌≡◌, ℕ, Bool, true, false, cond, ◌&&◌, eqb, leb, Some, None, Option, Ordering, sym, refl, ap, ◌∙◌, subst, true≢false}
 use Rattle.std.proofs.lemmas.Bool.{and_parts, eqb-true, or_left, and_from, eq-eqb}
 use Rattle.guides.specs.Meaning.{low, high}
 use Rattle.records.specs.declared.record.Phase.{Phase}
 use Rattle.records.specs.declared.record.Phase.TheVariants.{Enter, Down, Check, Back, On, Seek, Lock, Valid, Take, Link, LinkBack, Attach, ReleaseNew, PutEnd, TakeVictim, Mark, UnlinkBack, Unlink, Detach, ReleaseVictim, StrikeEnd, First, FirstNext}
 use Rattle.records.specs.declared.record.Task.{Task}
 use Rattle.engine.specs.Calling.{locked_by}
-use Rattle.promises.proofs.Laws.{Laws, Bound, bottom, exact, top, before, before_not_self, before_chains}
+use Rattle.promises.proofs.Laws.{Laws, Bound, exact, before, before_not_self, before_chains}
 use Rattle.promises.proofs.Sights.{Sight}
 use Rattle.promises.proofs.Invariant.{Inv, chained, rung, group, holds_at, is_placed, is_joined, is_keyed, is_lagging, holds, other_in, holder_in}
 

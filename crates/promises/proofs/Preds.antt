@@ -1,36 +1,20 @@
 -- That the rules which write a predecessor, and the mark, keep the invariant. Assumes the laws.
-use Rattle.std.proofs.Common.{◌≡◌, ℕ, ◌+◌, ◌<◌, ◌≤◌, Bool, true, false, cond, not, ◌&&◌, ◌||◌, eqb, ltb, leb, ◌⊎◌, List, [], ◌∷◌, get_or, Some, None, Option, Ordering, Less, Equal, Greater, sym, refl, ap, ◌∙◌, subst, inl, inr, arith}
-use Rattle.std.proofs.lemmas.Bool.{eqb-true, eqb-false, eq-eqb, ne_eqb, or_left, or_right, or_cases, and_parts, and_from, and_right, cases_eq}
+use Rattle.std.proofs.Common.{◌≡◌, ℕ, Bool, true, false, cond, not, ◌&&◌, ◌||◌, eqb, Some, None, Option, Ordering, sym, refl, ap, ◌∙◌, subst, inl, inr, arith}
+use Rattle.std.proofs.lemmas.Bool.{eq-eqb, ne_eqb, and_right, cases_eq}
 use Rattle.std.proofs.lemmas.Bool.Decides.{nat_tests}
-use Rattle.guides.specs.Meaning.{low, high, has}
-use Rattle.records.specs.declared.record.Phase.{Phase}
-use Rattle.records.specs.declared.record.Phase.TheVariants.{Enter, Down, Check, Back, On, Seek, Lock, Valid, Take, Link, LinkBack, Attach, ReleaseNew, PutEnd, TakeVictim, Mark, UnlinkBack, Unlink, Detach, ReleaseVictim, StrikeEnd, First, FirstNext}
-use Rattle.records.specs.declared.record.Status.{Status}
-use Rattle.records.specs.declared.record.Status.TheVariants.{Free, InHand, Chained, Retired}
+use Rattle.guides.specs.Meaning.{low, high}
 use Rattle.records.specs.declared.record.Task.{Task}
-use Rattle.records.specs.declared.record.Work.{Work}
-use Rattle.records.specs.declared.record.Work.TheVariants.{Put, Strike, Look, First as FirstWork, After}
-use Rattle.engine.specs.Calling.{locked_by}
 use Rattle.promises.specs.Promised.{is_chained}
-use Rattle.promises.proofs.Laws.{Laws, Bound, bottom, exact, top, before}
-use Rattle.records.specs.declared.answer.Answer.{Answer}
-use Rattle.records.specs.declared.outcome.Outcome.{Outcome}
-use Rattle.records.specs.declared.outcome.Outcome.TheVariants.{Goes, Waits, Ends, Retires}
-use Rattle.records.specs.Records.{into, with_other, held_by_other}
-use Rattle.engine.specs.Settling.{with_steps}
-use Rattle.promises.proofs.Laws.{compared, less_is_before, greater_is_after, equal_is_exact, before_chains, before_not_self}
-use Rattle.promises.proofs.Sights.{Sight, at_with, task_put, lock_put}
-use Rattle.promises.proofs.Invariant.{rung, group, fits, holds_at, holds_other, is_placed, is_between, is_keyed, is_marked, is_joined, is_lagging, is_hiding, is_detaching, is_striking, is_handing, holds, other_in, is_awaited, holder_in, chained, seen_by, Stands, Inv}
-use Rattle.promises.proofs.Retasks.{at_with_both, Like, Sound, retask, loose_stands}
-use Rattle.promises.proofs.Sees.{never, Sees, sees, holds_own_at, holds_own_other, at_not_high, spots_differ, has_other, joined_differ}
-use Rattle.promises.proofs.Walking.{Kept, awaited_still}
-use Rattle.promises.proofs.Relocks.{just, lock_is_taken, lock_is_released, both_fail}
-use Rattle.promises.proofs.Views.{Changes, puts, strikes}
-use Rattle.promises.proofs.Locking.{free_lock, or_false, leaves_first, next_injective}
-use Rattle.promises.proofs.Sights.{prev_put, mark_put}
-use Rattle.promises.proofs.Invariant.{is_spared, waits_for}
-use Rattle.promises.proofs.Retasks.{holder_same, other_in_same}
-use Rattle.promises.proofs.Sees.{has_holder, joined_chained, joined_prev, not_high_below}
+use Rattle.promises.proofs.Laws.{Laws, Bound, bottom, exact, top}
+use Rattle.promises.proofs.Sights.{Sight, at_with, task_put}
+use Rattle.promises.proofs.Invariant.{rung, holds_at, holds_other, is_placed, is_keyed, is_joined, is_lagging, is_hiding, is_detaching, is_striking, is_handing, holds, other_in, holder_in, chained, seen_by, Stands, Inv}
+use Rattle.promises.proofs.Retasks.{at_with_both, Sound}
+use Rattle.promises.proofs.Sees.{never, holds_own_at, holds_own_other, at_not_high, spots_differ}
+use Rattle.promises.proofs.Relocks.{just}
+use Rattle.promises.proofs.Locking.{next_injective}
+use Rattle.promises.proofs.Sights.{prev_put}
+use Rattle.promises.proofs.Retasks.{holder_same}
+use Rattle.promises.proofs.Sees.{has_holder, joined_chained, joined_prev}
 use Rattle.promises.proofs.Relocks.{other_alike, awaited_with}
 
 pub one_holder : (i j : ℕ) (l : Option ℕ) → l ≡ Some i → l ≡ Some j → i ≡ j

@@ -1,31 +1,27 @@
 -- That the rules that only read go one of the ways. Assumes nothing.
-use Rattle.std.proofs.Common.{◌≡◌, ℕ, ◌+◌, ◌<◌, ◌≤◌, Bool, true, false, cond, not, ◌||◌, eqb, ltb, leb, ◌⊎◌, List, [], ◌∷◌, length, Some, None, Ok, Err, Option, Result, Ordering, Less, Equal, Greater, sym, refl, ap, ◌∙◌, subst, inl, inr, arith}
-use Rattle.std.proofs.lemmas.Bool.{ltb-true, leb-true, leb-false, eqb-true, eqb-false}
+use Rattle.std.proofs.Common.{◌≡◌, ℕ, ◌+◌, ◌<◌, Bool, true, false, cond, eqb, leb, List, length, Ok, Ordering, Less, Equal, Greater, sym, refl, ap, ◌∙◌, subst, inl, inr, arith}
+use Rattle.std.proofs.lemmas.Bool.{leb-true, leb-false, eqb-true, eqb-false}
 use Rattle.std.proofs.lemmas.Bool.Decides.{nat_tests}
 use Rattle.guides.specs.declared.answer.Beside.{Beside}
 use Rattle.guides.specs.declared.answer.Beside.TheVariants.{Absent, End, Stands}
-use Rattle.guides.specs.declared.answer.Side.{Side}
-use Rattle.guides.specs.declared.answer.Side.TheVariants.{Lower, Higher}
 use Rattle.guides.specs.Meaning.{Meaning, low, high, has}
 use Rattle.guides.specs.Rules.{AnswersBeside}
-use Rattle.records.specs.declared.answer.Answer.TheVariants.{Yes, No, Found, Missing, NoRoom}
-use Rattle.records.specs.declared.answer.Damage.{Damage}
+use Rattle.records.specs.declared.answer.Answer.TheVariants.{Yes, No, Found, Missing}
 use Rattle.records.specs.declared.outcome.Outcome.{Outcome}
-use Rattle.records.specs.declared.outcome.Outcome.TheVariants.{Goes, Waits, Ends, Retires}
-use Rattle.records.specs.declared.record.Phase.{Phase}
-use Rattle.records.specs.declared.record.Phase.TheVariants.{Enter, Down, Check, Back, On, Seek, Lock, Valid, Take, Link, LinkBack, Attach, ReleaseNew, PutEnd, TakeVictim, Mark, UnlinkBack, Unlink, Detach, ReleaseVictim, StrikeEnd, First, FirstNext}
+use Rattle.records.specs.declared.outcome.Outcome.TheVariants.{Goes, Ends}
+use Rattle.records.specs.declared.record.Phase.TheVariants.{Enter, Down, Check, Back, On, Seek, First, FirstNext}
 use Rattle.records.specs.declared.record.Place.{Place}
 use Rattle.records.specs.declared.record.Station.{Station}
 use Rattle.records.specs.declared.record.Task.{Task}
 use Rattle.records.specs.declared.record.Work.{Work}
 use Rattle.records.specs.declared.record.Work.TheVariants.{Put, Strike, Look, First as FirstWork, After}
 use Rattle.records.specs.Records.{place, needing, standing_at, into, moved_to, with_downs, start_over}
-use Rattle.rules.specs.Finding.{most_downs, enter, lead, down_by, down, side_of, check_by, check, back_look_by, back_after_by, back_change_by, seek_by, back_look, back_after, back_change, seek}
-use Rattle.rules.specs.Reading.{on_look_by, on_after_by, first_by, first_next_by, on_look, on_after, first, first_next}
+use Rattle.rules.specs.Finding.{most_downs, lead, down_by, down, side_of, check_by, check, back_look_by, back_after_by, back_change_by, seek_by, back_change, seek}
+use Rattle.rules.specs.Reading.{on_look_by, on_after_by, first_by, first_next_by, first, first_next}
 use Rattle.rules.specs.Stepping.{back, on}
 use Rattle.promises.proofs.Laws.{compared, exact, top}
 use Rattle.promises.proofs.Sights.{Sight, sight, field_read}
-use Rattle.promises.proofs.Finds.{needed, never_ok, same_ok, precedes_has, precedes_has_last, stands_seen, next_seen, prev_seen, marked_seen}
+use Rattle.promises.proofs.Finds.{needed, same_ok, precedes_has, precedes_has_last, stands_seen, next_seen, prev_seen, marked_seen}
 use Rattle.promises.proofs.Views.{Changes, puts, strikes, Strays, first_back, put_on, strike_on, first_on, stands, Way}
 
 module _ {K : Type 0} (rank : K → K → Ordering) (me : ℕ) (ps : List (Place K)) (ss : List (Station K)) (m : Meaning) (t : Task K) (o : Outcome K) (s' : Sight K)

@@ -1,20 +1,12 @@
 -- That a station may take another task, or none, where the places show no difference. Assumes nothing.
-use Rattle.std.proofs.Common.{◌≡◌, ℕ, ◌+◌, ◌<◌, ◌≤◌, Bool, true, false, cond, not, ◌&&◌, ◌||◌, eqb, ltb, leb, ◌⊎◌, List, [], ◌∷◌, get_or, Some, None, Option, Ordering, sym, refl, ap, ◌∙◌, subst, inl, inr, arith}
-use Rattle.std.proofs.lemmas.Bool.{eqb-true, eqb-false, eq-eqb, ne_eqb, or_left, or_right, or_cases, and_parts}
-use Rattle.std.proofs.lemmas.Bool.Decides.{nat_tests}
-use Rattle.guides.specs.Meaning.{low, high, has}
-use Rattle.records.specs.declared.record.Phase.{Phase}
-use Rattle.records.specs.declared.record.Phase.TheVariants.{Enter, Down, Check, Back, On, Seek, Lock, Valid, Take, Link, LinkBack, Attach, ReleaseNew, PutEnd, TakeVictim, Mark, UnlinkBack, Unlink, Detach, ReleaseVictim, StrikeEnd, First, FirstNext}
-use Rattle.records.specs.declared.record.Status.{Status}
-use Rattle.records.specs.declared.record.Status.TheVariants.{Free, InHand, Chained, Retired}
+use Rattle.std.proofs.Common.{◌≡◌, ℕ, Bool, true, false, cond, not, ◌&&◌, ◌||◌, eqb, leb, List, get_or, Some, None, Option, Ordering, sym, refl, ap, ◌∙◌, subst, arith}
+use Rattle.std.proofs.lemmas.Bool.{eqb-true, eqb-false}
+use Rattle.records.specs.declared.record.Status.TheVariants.{Retired}
 use Rattle.records.specs.declared.record.Task.{Task}
-use Rattle.records.specs.declared.record.Work.{Work}
-use Rattle.records.specs.declared.record.Work.TheVariants.{Put, Strike, Look, First as FirstWork, After}
-use Rattle.engine.specs.Calling.{locked_by}
 use Rattle.promises.specs.Promised.{is_chained}
-use Rattle.promises.proofs.Laws.{Laws, Bound, bottom, exact, top, before}
+use Rattle.promises.proofs.Laws.{exact, before}
 use Rattle.promises.proofs.Sights.{Sight, at_with, task_put}
-use Rattle.promises.proofs.Invariant.{rung, group, fits, is_lagging, is_hiding, is_detaching, is_striking, is_handing, holds, other_in, is_awaited, holder_in, seen_by, shown, Stands, Inv}
+use Rattle.promises.proofs.Invariant.{rung, group, fits, is_lagging, is_hiding, is_detaching, is_striking, is_handing, holds, other_in, is_awaited, holder_in, seen_by, Stands, Inv}
 
 -- What holds of the value written and of every other.
 pub at_with_both : {A : Type 0} (f : ℕ → A) (p q : ℕ) (a : A) (P : A → Type 0) → (p ≡ q → P a) → ((p ≡ q → ⊥) → P (f q)) → P (at_with f p a q)

@@ -1,33 +1,21 @@
 -- That the rule of every accepted step goes one of the ways. Assumes nothing.
-use Rattle.std.proofs.Common.{◌≡◌, ℕ, ◌+◌, ◌<◌, ◌≤◌, Bool, true, false, cond, not, ◌||◌, eqb, ltb, leb, ◌⊎◌, List, [], ◌∷◌, length, Some, None, Ok, Err, Option, Result, Ordering, Less, Equal, Greater, sym, refl, ap, ◌∙◌, subst, inl, inr, arith}
-use Rattle.std.proofs.lemmas.Bool.{ltb-true, leb-true, leb-false, eqb-true, eqb-false}
-use Rattle.std.proofs.lemmas.Bool.Decides.{nat_tests}
-use Rattle.guides.specs.declared.answer.Beside.{Beside}
-use Rattle.guides.specs.declared.answer.Beside.TheVariants.{Absent, End, Stands}
-use Rattle.guides.specs.declared.answer.Side.{Side}
-use Rattle.guides.specs.declared.answer.Side.TheVariants.{Lower, Higher}
-use Rattle.guides.specs.Meaning.{Meaning, low, high, has}
-use Rattle.guides.specs.Rules.{AnswersBeside}
-use Rattle.records.specs.declared.answer.Answer.TheVariants.{Yes, No, Found, Missing, NoRoom}
+use Rattle.std.proofs.Common.{◌≡◌, ℕ, List, Ok, Result, Ordering, sym, refl}
+use Rattle.guides.specs.Meaning.{Meaning}
 use Rattle.records.specs.declared.answer.Damage.{Damage}
-use Rattle.records.specs.declared.outcome.Outcome.{Outcome}
-use Rattle.records.specs.declared.outcome.Outcome.TheVariants.{Goes, Waits, Ends, Retires}
+use Rattle.records.specs.declared.outcome.Outcome.TheVariants.{Goes}
 use Rattle.records.specs.declared.record.Phase.{Phase}
 use Rattle.records.specs.declared.record.Phase.TheVariants.{Enter, Down, Check, Back, On, Seek, Lock, Valid, Take, Link, LinkBack, Attach, ReleaseNew, PutEnd, TakeVictim, Mark, UnlinkBack, Unlink, Detach, ReleaseVictim, StrikeEnd, First, FirstNext}
 use Rattle.records.specs.declared.record.Place.{Place}
 use Rattle.records.specs.declared.record.Station.{Station}
 use Rattle.records.specs.declared.record.Task.{Task}
-use Rattle.records.specs.declared.record.Work.{Work}
-use Rattle.records.specs.declared.record.Work.TheVariants.{Put, Strike, Look, First as FirstWork, After}
-use Rattle.guides.specs.Meaning.{neighbours}
-use Rattle.records.specs.Records.{Ruled, into, moved_to, with_downs}
+use Rattle.records.specs.Records.{Ruled, into}
 use Rattle.rules.specs.Finding.{enter, down, check, seek}
 use Rattle.rules.specs.Reading.{first, first_next}
 use Rattle.rules.specs.Holding.{lock, valid}
 use Rattle.rules.specs.Putting.{take, link, link_back, release_new, put_end}
 use Rattle.rules.specs.Striking.{take_victim, mark, unlink_back, unlink, release_victim, strike_end}
-use Rattle.rules.specs.Stepping.{Choice, Turn, rule_of, MayChoose, reads, writes, guides, back, on, attach, detach}
-use Rattle.promises.proofs.Sights.{Sight, sight, guide_put}
+use Rattle.rules.specs.Stepping.{Choice, Turn, rule_of, MayChoose, writes, back, on, attach, detach}
+use Rattle.promises.proofs.Sights.{Sight, sight}
 use Rattle.promises.proofs.Finds.{same_ok, read, wrote, guided}
 use Rattle.promises.proofs.Readers.{downs, checks, backs, ons, seeks, firsts, firsts_next}
 use Rattle.promises.proofs.Writers.{Wrote, locks, valids, takes, links_way, links_back_way, releases_new_way, put_ends_way, victims, marks_way, unlinks_back_way, unlinks_way, releases_victim_way, strike_ends_way, attaches_way, detaches_way}

@@ -1,18 +1,7 @@
 -- That every book that a run comes to has the invariant. Assumes the laws.
-use Rattle.std.proofs.Common.{◌≡◌, ℕ, ◌+◌, ◌<◌, ◌≤◌, Bool, true, false, cond, not, ◌&&◌, ◌||◌, eqb, ltb, leb, ◌⊎◌, List, [], ◌∷◌, length, get_or, is_some, Some, None, Ok, Err, Option, Result, Ordering, sym, refl, ap, ◌∙◌, subst, inl, inr, arith}
-use Rattle.std.proofs.lemmas.Bool.{eqb-true, eqb-false, eq-eqb, ne_eqb, or_left, or_right, or_cases, and_parts, ltb-true}
-use Rattle.std.proofs.lemmas.Bool.Decides.{nat_tests}
-use Rattle.guides.specs.Meaning.{low, high, has}
-use Rattle.records.specs.declared.record.Phase.{Phase}
-use Rattle.records.specs.declared.record.Phase.TheVariants.{Enter, Down, Check, Back, On, Seek, Lock, Valid, Take, Link, LinkBack, Attach, ReleaseNew, PutEnd, TakeVictim, Mark, UnlinkBack, Unlink, Detach, ReleaseVictim, StrikeEnd, First, FirstNext}
-use Rattle.records.specs.declared.record.Status.{Status}
-use Rattle.records.specs.declared.record.Status.TheVariants.{Free, InHand, Chained, Retired}
-use Rattle.records.specs.declared.record.Task.{Task}
-use Rattle.records.specs.declared.record.Work.{Work}
-use Rattle.records.specs.declared.record.Work.TheVariants.{Put, Strike, Look, First as FirstWork, After}
-use Rattle.engine.specs.Calling.{locked_by}
-use Rattle.promises.specs.Promised.{is_chained}
-use Rattle.promises.proofs.Laws.{Laws, Bound, bottom, exact, top, before}
+use Rattle.std.proofs.Common.{◌≡◌, ℕ, ◌<◌, Bool, true, false, cond, ltb, List, length, get_or, is_some, None, Ok, Err, Result, Ordering, sym, refl, subst}
+use Rattle.std.proofs.lemmas.Bool.{and_parts, ltb-true}
+use Rattle.promises.proofs.Laws.{Laws}
 use Rattle.guides.specs.Meaning.{Meaning}
 use Rattle.records.specs.declared.answer.Refusal.{Refusal}
 use Rattle.records.specs.declared.answer.Stepped.{Stepped}

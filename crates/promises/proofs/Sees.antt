@@ -1,6 +1,6 @@
 -- That a work stays among places that it sees: successors, predecessors and what the guide names. Assumes the laws.
-use Rattle.std.proofs.Common.{◌≡◌, ℕ, ◌+◌, ◌<◌, ◌≤◌, Bool, true, false, cond, not, ◌&&◌, ◌||◌, eqb, ltb, leb, ◌⊎◌, List, [], ◌∷◌, get_or, Some, None, Option, Ordering, Less, Equal, Greater, sym, refl, ap, ◌∙◌, subst, inl, inr, arith}
-use Rattle.std.proofs.lemmas.Bool.{eqb-true, eqb-false, eq-eqb, ne_eqb, or_left, or_right, or_cases, and_parts, and_from, and_right}
+use Rattle.std.proofs.Common.{◌≡◌, ℕ, Bool, true, false, cond, not, ◌&&◌, ◌||◌, eqb, leb, ◌⊎◌, List, get_or, Some, None, Option, Ordering, sym, refl, ap, ◌∙◌, inl, inr, arith}
+use Rattle.std.proofs.lemmas.Bool.{eqb-true, eq-eqb, ne_eqb, or_left, or_right, or_cases, and_parts, and_from, and_right}
 use Rattle.std.proofs.lemmas.Bool.Decides.{nat_tests}
 use Rattle.guides.specs.Meaning.{low, high, has}
 use Rattle.records.specs.declared.record.Phase.{Phase}
@@ -8,14 +8,12 @@ use Rattle.records.specs.declared.record.Phase.TheVariants.{Enter, Down, Check, 
 use Rattle.records.specs.declared.record.Status.{Status}
 use Rattle.records.specs.declared.record.Status.TheVariants.{Free, InHand, Chained, Retired}
 use Rattle.records.specs.declared.record.Task.{Task}
-use Rattle.records.specs.declared.record.Work.{Work}
-use Rattle.records.specs.declared.record.Work.TheVariants.{Put, Strike, Look, First as FirstWork, After}
 use Rattle.engine.specs.Calling.{locked_by}
 use Rattle.promises.specs.Promised.{is_chained}
 use Rattle.promises.proofs.Laws.{Laws, Bound, bottom, exact, top, before}
-use Rattle.promises.proofs.Laws.{compared, before_not_self}
+use Rattle.promises.proofs.Laws.{before_not_self}
 use Rattle.promises.proofs.Sights.{Sight}
-use Rattle.promises.proofs.Invariant.{rung, group, holds_at, holds_other, is_placed, is_joined, is_marked, is_spared, is_lagging, is_hiding, is_detaching, is_handing, waits_for, holds, other_in, holder_in, chained, seen_by, shown, Stands, Inv}
+use Rattle.promises.proofs.Invariant.{rung, group, holds_at, holds_other, is_placed, is_joined, is_marked, is_lagging, is_hiding, is_detaching, is_handing, waits_for, holds, other_in, holder_in, chained, seen_by, Inv}
 
 pub never : {P : Type 0} → true ≡ false → P
 never e = let z : ◌≡◌ {A = ℕ} 0 1 = cc in absurd (omega arith)

@@ -1,10 +1,8 @@
 -- A book seen by what each place and each station reads, as functions, and what a write of one field makes of it.
 -- Assumes nothing.
-use Rattle.std.proofs.Common.{◌≡◌, ℕ, zero, suc, ◌<◌, ◌≤◌, Bool, true, false, cond, ◌&&◌, eqb, ltb, ◌≢◌, List, [], ◌∷◌, map, length, get_or, set, Some, None, Option, sym, refl, ap, ◌∙◌, subst, arith}
-use mathlib.Core.Path.{fun_ext}
-use Rattle.std.proofs.lemmas.List.{length-set, length-map}
-use Rattle.std.proofs.lemmas.Option.{slice_get-get_or, slice_get_past}
-use Rattle.std.proofs.lemmas.Bool.{cond-true, cond-false, eqb-true, ltb-true, eq-eqb, and_parts}
+use Rattle.std.proofs.Common.{◌≡◌, ℕ, zero, suc, ◌<◌, Bool, true, false, cond, eqb, ◌≢◌, List, [], ◌∷◌, length, set, Some, None, Option, sym, refl, ap, ◌∙◌, arith}
+use Rattle.std.proofs.lemmas.Option.{slice_get-get_or}
+use Rattle.std.proofs.lemmas.Bool.{eqb-true}
 use Rattle.std.proofs.lemmas.Bool.Decides.{nat_tests}
 use Rattle.std.specs.List.{slice_get}
 use Rattle.guides.specs.Meaning.{Meaning, low, high}
@@ -13,10 +11,9 @@ use Rattle.records.specs.declared.record.Station.{Station}
 use Rattle.records.specs.declared.record.Status.{Status}
 use Rattle.records.specs.declared.record.Status.TheVariants.{Free}
 use Rattle.records.specs.declared.record.Task.{Task}
-use Rattle.records.specs.Records.{place, blank, written, with_next, with_prev, with_mark, with_lock, with_status}
-use Rattle.engine.specs.Calling.{served, task_at}
-use Rattle.engine.specs.Contents.{field_of, next_of}
-use Rattle.engine.specs.Settling.{most_stations, idle, busy}
+use Rattle.records.specs.Records.{place, blank}
+use Rattle.engine.specs.Calling.{task_at}
+use Rattle.engine.specs.Contents.{field_of}
 use Rattle.promises.specs.Books.{Book}
 use Rattle.promises.proofs.Laws.{Bound, bottom, exact, top}
 

@@ -1,21 +1,19 @@
 -- The books of a work's span: each is the end of a run, and what a reading work knows of the place on which it stands holds
 -- of every run. Assumes the invariant of every book of a run, and that the predecessor of a place of the chain is on it.
-use Rattle.std.proofs.Common.{◌≡◌, ℕ, Bool, true, false, cond, ◌⊎◌, List, [], ◌∷◌, is_some, Some, None, Option, Ordering, sym, refl, ap, ◌∙◌, subst, inl, inr}
+use Rattle.std.proofs.Common.{◌≡◌, ℕ, Bool, true, false, ◌⊎◌, List, [], ◌∷◌, is_some, Some, Ordering, sym, refl, ap, ◌∙◌, subst, inl, inr}
 use Rattle.std.proofs.lemmas.Bool.{true≢false}
-use Rattle.guides.specs.Meaning.{low, high}
+use Rattle.guides.specs.Meaning.{low}
 use Rattle.records.specs.declared.outcome.Outcome.TheVariants.{Goes, Waits}
-use Rattle.records.specs.declared.record.Phase.{Phase}
-use Rattle.records.specs.declared.record.Phase.TheVariants.{First}
 use Rattle.records.specs.declared.record.Task.{Task}
 use Rattle.records.specs.declared.record.Work.{Work}
 use Rattle.records.specs.declared.record.Work.TheVariants.{Put, Strike, Look, First as FirstWork, After}
-use Rattle.engine.specs.Settling.{with_await, with_steps, counted}
+use Rattle.engine.specs.Settling.{with_await}
 use Rattle.promises.specs.Books.{Book, work_at}
 use Rattle.promises.specs.Runs.{Call, Reply, Does, Run, opened, next, works_in, for_work, since}
 use Rattle.promises.proofs.Laws.{Laws}
-use Rattle.promises.proofs.Sights.{Sight, sight_of}
+use Rattle.promises.proofs.Sights.{sight_of}
 use Rattle.promises.proofs.Invariant.{Inv, chained, fits, group}
-use Rattle.promises.proofs.Hindsight.{Among, Remembers, now_among, hindsight, none_works_opened}
+use Rattle.promises.proofs.Hindsight.{Among, now_among, hindsight, none_works_opened}
 use Rattle.promises.proofs.Works.{Comes, call_comes, none_not_some}
 use Rattle.promises.proofs.Walked.{Walked, walks, walked_first, more_walked}
 

@@ -1,11 +1,11 @@
 -- Every answer but a put's or a strike's yes is true of the keys at a moment of its work. Assumes the laws of the order, the
 -- invariant of every book of a run, that the predecessor of a place of the chain is on it, and that the keys of a book are
 -- those of the unmarked places of its chain.
-use Rattle.std.proofs.Common.{◌≡◌, ℕ, ◌≤◌, Bool, true, false, cond, not, ◌&&◌, ◌||◌, leb, ◌⊎◌, List, [], ◌∷◌, is_some, Some, None, Ordering, Less, Equal, Greater, sym, refl, ap, ◌∙◌, subst, inl, inr, arith}
+use Rattle.std.proofs.Common.{◌≡◌, ℕ, ◌≤◌, Bool, true, false, leb, ◌⊎◌, List, [], ◌∷◌, is_some, Some, Ordering, Equal, Greater, sym, refl, ap, ◌∙◌, subst, inl, inr, arith}
 use Rattle.std.proofs.lemmas.Bool.{true≢false, not-true}
 use Rattle.guides.specs.Meaning.{low, high}
 use Rattle.records.specs.declared.answer.Answer.{Answer}
-use Rattle.records.specs.declared.answer.Answer.TheVariants.{Yes, No, Found, Missing, NoRoom}
+use Rattle.records.specs.declared.answer.Answer.TheVariants.{Found, Missing}
 use Rattle.records.specs.declared.answer.Stepped.TheVariants.{Ended}
 use Rattle.records.specs.declared.outcome.Outcome.{Outcome}
 use Rattle.records.specs.declared.outcome.Outcome.TheVariants.{Goes, Waits, Ends, Retires}
@@ -15,22 +15,22 @@ use Rattle.records.specs.declared.record.Task.{Task}
 use Rattle.records.specs.declared.record.Work.{Work}
 use Rattle.records.specs.declared.record.Work.TheVariants.{Put, Strike, Look, First as FirstWork, After}
 use Rattle.promises.specs.Books.{Book, keys, work_at}
-use Rattle.promises.specs.Promised.{is_chained, is_change, IsChangeDone, AtSome, EndsWith, AnswersAreTrue}
+use Rattle.promises.specs.Promised.{is_change, IsChangeDone, AtSome, AnswersAreTrue}
 use Rattle.promises.specs.Runs.{Run, since}
-use Rattle.promises.specs.Truths.{Holds, TrueOf, Smallest, SmallestAbove}
+use Rattle.promises.specs.Truths.{Holds, TrueOf}
 use Rattle.promises.proofs.Laws.{Laws, Bound, bottom, exact, top, before, compared, equal_is_exact, greater_is_after}
 use Rattle.promises.proofs.Sights.{Sight, sight_of}
 use Rattle.promises.proofs.Views.{Way}
 use Rattle.promises.proofs.Settles.{Settling}
-use Rattle.promises.proofs.Accepted.{Made, accepted_step_made}
-use Rattle.promises.proofs.Invariant.{Inv, chained, fits, group, seen_by}
+use Rattle.promises.proofs.Accepted.{accepted_step_made}
+use Rattle.promises.proofs.Invariant.{Inv, chained, fits, group}
 use Rattle.promises.proofs.Touches.{Touch, way_touches}
 use Rattle.promises.proofs.Passes.{clash}
 use Rattle.promises.proofs.Hindsight.{Among, Struck, Remembers, now_among, hindsight}
 use Rattle.promises.proofs.Works.{some_injects}
 use Rattle.promises.proofs.Walked.{Walked, LowKnown, Came, low_for, low_not_high, came_on, either_known, seen_unmarked}
 use Rattle.promises.proofs.Spans.{since_runs, walked}
-use Rattle.promises.proofs.Moments.{ShowsKeys, never_both, never_self, absent_next, absent_marked, smallest_above, none_above, smallest_of, none_at_all, valid_next_unmarked, at_low}
+use Rattle.promises.proofs.Moments.{ShowsKeys, never_both, absent_next, absent_marked, smallest_above, none_above, smallest_of, none_at_all, valid_next_unmarked, at_low}
 
 fit_2 : (w : Work) → fits w 2 ≡ true → w ≡ FirstWork
 fit_2 Put h = absurd (true≢false (sym h))

@@ -1,6 +1,6 @@
 -- The ways a step can go: one for each way of each rule, with what it found and what it changes. Assumes nothing.
-use Rattle.std.proofs.Common.{◌≡◌, ℕ, ◌+◌, ◌<◌, ◌≤◌, Bool, true, false, ◌⊎◌, List, Some, None, Option, Ordering, Less, Equal, Greater}
-use Rattle.guides.specs.Meaning.{Meaning, low, high, has, neighbours}
+use Rattle.std.proofs.Common.{◌≡◌, ℕ, ◌+◌, ◌<◌, ◌≤◌, true, false, ◌⊎◌, Some, None, Ordering, Less, Equal, Greater}
+use Rattle.guides.specs.Meaning.{low, high, has, neighbours}
 use Rattle.guides.proofs.Sequences.{attached, detached}
 use Rattle.records.specs.declared.answer.Answer.TheVariants.{Yes, No, Found, Missing, NoRoom}
 use Rattle.records.specs.declared.outcome.Outcome.{Outcome}

@@ -1,7 +1,7 @@
 -- Where a look, an after or a first has come from: the place it stands on was on the chain at a moment of its work, and it
 -- came there by a link of such a moment. Assumes the invariant at the moments of the work, hindsight for it, and that the
 -- predecessor of a place of the chain is on the chain.
-use Rattle.std.proofs.Common.{◌≡◌, ℕ, Bool, true, false, cond, not, ◌&&◌, ◌||◌, ◌⊎◌, List, [], ◌∷◌, Some, None, Ordering, Less, Equal, Greater, sym, refl, ap, ◌∙◌, subst, inl, inr, arith}
+use Rattle.std.proofs.Common.{◌≡◌, ℕ, Bool, true, false, not, ◌&&◌, ◌||◌, ◌⊎◌, List, ◌∷◌, Ordering, Less, Equal, Greater, sym, refl, ap, ◌∙◌, subst, inl, inr, arith}
 use Rattle.std.proofs.lemmas.Bool.{true≢false, not_from_false}
 use Rattle.guides.specs.Meaning.{low, high}
 use Rattle.records.specs.declared.outcome.Outcome.{Outcome}

@@ -1,28 +1,23 @@
 -- What is kept over the rule of a step, and that the rules which only read keep it. Assumes the laws.
-use Rattle.std.proofs.Common.{◌≡◌, ℕ, ◌+◌, ◌<◌, ◌≤◌, Bool, true, false, cond, not, ◌&&◌, ◌||◌, eqb, ltb, leb, ◌⊎◌, List, [], ◌∷◌, get_or, Some, None, Option, Ordering, Less, Equal, Greater, sym, refl, ap, ◌∙◌, subst, inl, inr, arith}
-use Rattle.std.proofs.lemmas.Bool.{eqb-true, eqb-false, eq-eqb, ne_eqb, or_left, or_right, or_cases, and_parts}
-use Rattle.std.proofs.lemmas.Bool.Decides.{nat_tests}
-use Rattle.guides.specs.Meaning.{low, high, has}
+use Rattle.std.proofs.Common.{◌≡◌, ℕ, ◌+◌, Bool, true, false, leb, ◌⊎◌, List, get_or, Some, Option, Ordering, Less, Equal, Greater, sym, refl, ap, ◌∙◌, subst, inl, inr, arith}
+use Rattle.guides.specs.Meaning.{low, high}
 use Rattle.records.specs.declared.record.Phase.{Phase}
 use Rattle.records.specs.declared.record.Phase.TheVariants.{Enter, Down, Check, Back, On, Seek, Lock, Valid, Take, Link, LinkBack, Attach, ReleaseNew, PutEnd, TakeVictim, Mark, UnlinkBack, Unlink, Detach, ReleaseVictim, StrikeEnd, First, FirstNext}
-use Rattle.records.specs.declared.record.Status.{Status}
-use Rattle.records.specs.declared.record.Status.TheVariants.{Free, InHand, Chained, Retired}
+use Rattle.records.specs.declared.record.Status.TheVariants.{Retired}
 use Rattle.records.specs.declared.record.Task.{Task}
 use Rattle.records.specs.declared.record.Work.{Work}
-use Rattle.records.specs.declared.record.Work.TheVariants.{Put, Strike, Look, First as FirstWork, After}
-use Rattle.engine.specs.Calling.{locked_by}
-use Rattle.promises.specs.Promised.{is_chained}
-use Rattle.promises.proofs.Laws.{Laws, Bound, bottom, exact, top, before}
+use Rattle.records.specs.declared.record.Work.TheVariants.{Put, Strike}
+use Rattle.promises.proofs.Laws.{Laws, exact, before}
 use Rattle.records.specs.declared.answer.Answer.{Answer}
 use Rattle.records.specs.declared.outcome.Outcome.{Outcome}
 use Rattle.records.specs.declared.outcome.Outcome.TheVariants.{Goes, Waits, Ends, Retires}
 use Rattle.records.specs.Records.{into, moved_to, with_downs}
 use Rattle.engine.specs.Settling.{with_steps, retired_for as rests}
 use Rattle.promises.proofs.Laws.{compared, less_is_before}
-use Rattle.promises.proofs.Sights.{Sight, at_with, task_put}
+use Rattle.promises.proofs.Sights.{Sight, task_put}
 use Rattle.promises.proofs.Settles.{Others, work_over, retire_put}
 use Rattle.promises.proofs.Views.{Way, Changes, puts, strikes, Strays, first_back, put_on, strike_on, first_on, look_valid, first_valid, after_valid}
-use Rattle.promises.proofs.Invariant.{rung, group, fits, is_awaited, chained, seen_by, Stands, Inv}
+use Rattle.promises.proofs.Invariant.{rung, group, fits, is_awaited, seen_by, Inv}
 use Rattle.promises.proofs.Retasks.{Like, Sound, retask, loose_like, task_loose, loose_stands}
 use Rattle.promises.proofs.Sees.{never, low_seen, next_is_seen, prev_is_seen, guided_is_seen, not_high_below}
 

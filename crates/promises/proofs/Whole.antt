@@ -1,15 +1,13 @@
 -- All the promises, once what holds between calls does so in every run. Assumes the laws of the order, and the invariant of
 -- every book of a run.
-use Rattle.std.proofs.Common.{◌≡◌, ℕ, Ordering, refl}
-use Rattle.guides.specs.Meaning.{low}
+use Rattle.std.proofs.Common.{Ordering}
 use Rattle.promises.specs.Books.{Book}
 use Rattle.promises.specs.Promised.{Promises}
 use Rattle.promises.specs.Runs.{Run}
 use Rattle.promises.proofs.Laws.{Laws}
-use Rattle.promises.proofs.Sights.{Sight, sight_of}
-use Rattle.promises.proofs.Invariant.{Inv, chained}
+use Rattle.promises.proofs.Sights.{sight_of}
+use Rattle.promises.proofs.Invariant.{Inv}
 use Rattle.promises.proofs.Running.{run_has}
-use Rattle.promises.proofs.Owned.{Kept}
 use Rattle.promises.proofs.Members.{held_is_kept, kept_is_held}
 use Rattle.promises.proofs.Moments.{ShowsKeys}
 use Rattle.promises.proofs.Preceding.{precedes}

@@ -1,19 +1,19 @@
 -- How the work under way at a station came to be what it is: begun by the call, untouched by it, or stepped by it; that its
 -- steps are counted honestly; and that only locks make a step wait. Assumes nothing.
-use Rattle.std.proofs.Common.{◌≡◌, ℕ, ◌+◌, ◌-◌, ◌^◌, ◌<◌, ◌≤◌, min, Bool, true, false, cond, not, ◌&&◌, eqb, ◌⊎◌, List, [], ◌∷◌, is_some, Some, None, Ok, Option, Ordering, sym, refl, ap, ◌∙◌, subst, inl, inr, arith}
+use Rattle.std.proofs.Common.{◌≡◌, ℕ, ◌+◌, ◌-◌, ◌^◌, min, true, false, cond, eqb, ◌⊎◌, is_some, Some, None, Ok, Option, Ordering, sym, refl, ap, ◌∙◌, subst, inl, inr, arith}
 use Rattle.std.proofs.lemmas.Bool.{true≢false, eq-eqb, ne_eqb, cases_eq, and_left, and_from}
 use Rattle.records.specs.declared.answer.Answer.{Answer}
 use Rattle.records.specs.declared.answer.Stepped.{Stepped}
-use Rattle.records.specs.declared.answer.Stepped.TheVariants.{Moved, Waits as Waited, Ended}
+use Rattle.records.specs.declared.answer.Stepped.TheVariants.{Ended}
 use Rattle.records.specs.declared.outcome.Outcome.{Outcome}
-use Rattle.records.specs.declared.outcome.Outcome.TheVariants.{Goes, Waits, Ends, Retires}
+use Rattle.records.specs.declared.outcome.Outcome.TheVariants.{Goes, Waits}
 use Rattle.records.specs.declared.record.Task.{Task}
 use Rattle.records.specs.declared.record.Work.{Work}
 use Rattle.engine.specs.Calling.{begun}
 use Rattle.engine.specs.Settling.{counted, with_steps, with_await, awaiting_task, retired_for as rests}
 use Rattle.promises.specs.Books.{Book, work_at}
 use Rattle.promises.specs.Runs.{Call, Reply, Does, Run, opened, next, is_step_of, works_in, for_work, given_steps, begin, step, leave, stepped}
-use Rattle.promises.specs.Promised.{StepsAreCounted, EndsWith}
+use Rattle.promises.specs.Promised.{StepsAreCounted}
 use Rattle.promises.proofs.Sights.{Sight, sight_of, at_with}
 use Rattle.promises.proofs.Settles.{Settling, retire_put}
 use Rattle.promises.proofs.Accepted.{Made, accepted_step_made}

@@ -1,40 +1,31 @@
 -- That the rules that write places or change the guide go one of the ways. Assumes nothing.
-use Rattle.std.proofs.Common.{◌≡◌, ℕ, ◌+◌, ◌<◌, ◌≤◌, Bool, true, false, cond, not, ◌||◌, eqb, ltb, leb, ◌⊎◌, List, [], ◌∷◌, length, Some, None, Ok, Err, Option, Result, Ordering, Less, Equal, Greater, sym, refl, ap, ◌∙◌, subst, inl, inr, arith}
-use Rattle.std.proofs.lemmas.Bool.{ltb-true, leb-true, leb-false, eqb-true, eqb-false, or_parts, not-false}
-use Rattle.std.proofs.lemmas.Bool.Decides.{nat_tests as tells}
-use Rattle.guides.specs.declared.answer.Beside.{Beside}
-use Rattle.guides.specs.declared.answer.Beside.TheVariants.{Absent, End, Stands}
-use Rattle.guides.specs.declared.answer.Side.{Side}
-use Rattle.guides.specs.declared.answer.Side.TheVariants.{Lower, Higher}
-use Rattle.guides.specs.Meaning.{Meaning, low, high, has}
-use Rattle.guides.specs.Rules.{AnswersBeside}
-use Rattle.records.specs.declared.answer.Answer.TheVariants.{Yes, No, Found, Missing, NoRoom}
+use Rattle.std.proofs.Common.{◌≡◌, ℕ, ◌<◌, Bool, true, false, cond, List, length, Some, None, Ok, Err, Option, Result, Ordering, Less, Equal, Greater, sym, refl, ap, ◌∙◌, subst, inl, inr}
+use Rattle.std.proofs.lemmas.Bool.{leb-false, or_parts, not-false}
+use Rattle.guides.specs.Meaning.{Meaning}
+use Rattle.records.specs.declared.answer.Answer.TheVariants.{Yes}
 use Rattle.records.specs.declared.answer.Damage.{Damage}
 use Rattle.records.specs.declared.outcome.Outcome.{Outcome}
 use Rattle.records.specs.declared.outcome.Outcome.TheVariants.{Goes, Waits, Ends, Retires}
-use Rattle.records.specs.declared.record.Phase.{Phase}
-use Rattle.records.specs.declared.record.Phase.TheVariants.{Enter, Down, Check, Back, On, Seek, Lock, Valid, Take, Link, LinkBack, Attach, ReleaseNew, PutEnd, TakeVictim, Mark, UnlinkBack, Unlink, Detach, ReleaseVictim, StrikeEnd, First, FirstNext}
+use Rattle.records.specs.declared.record.Phase.TheVariants.{Lock, Valid, Take, Link, LinkBack, Attach, ReleaseNew, PutEnd, TakeVictim, Mark, UnlinkBack, Unlink, Detach, ReleaseVictim, StrikeEnd}
 use Rattle.records.specs.declared.record.Place.{Place}
 use Rattle.records.specs.declared.record.Station.{Station}
 use Rattle.records.specs.declared.record.Task.{Task}
 use Rattle.records.specs.declared.record.Work.{Work}
 use Rattle.records.specs.declared.record.Work.TheVariants.{Put, Strike, Look, First as FirstWork, After}
 use Rattle.guides.specs.declared.answer.GuideRefusal.{GuideRefusal}
-use Rattle.guides.specs.declared.answer.GuideRefusal.TheVariants.{BadSpot, NotThere}
-use Rattle.guides.specs.Meaning.{neighbours, with_after, without}
+use Rattle.guides.specs.Meaning.{neighbours}
 use Rattle.guides.specs.Rules.{attaching, detaching}
-use Rattle.guides.proofs.Sequences.{attached, detached}
 use Rattle.std.proofs.lemmas.List.{length-set}
 use Rattle.records.specs.declared.answer.Damage.TheVariants.{Guide}
 use Rattle.records.specs.declared.record.Status.{Status}
 use Rattle.records.specs.declared.record.Status.TheVariants.{Free, InHand, Chained, Retired}
-use Rattle.records.specs.Records.{Ruled, place, needing, standing_at, written, with_next, with_prev, with_mark, with_lock, with_status, released, into, moved_to, with_other, held_by_other, start_over}
+use Rattle.records.specs.Records.{Ruled, place, needing, standing_at, written, with_next, with_prev, with_mark, with_lock, with_status, released, into, with_other, held_by_other}
 use Rattle.rules.specs.Holding.{lock_by, valid_by, lock, valid}
-use Rattle.rules.specs.Putting.{is_free, FreePlace, MayTake, take_by, take, link, link_back, release_new, put_end, most_places}
+use Rattle.rules.specs.Putting.{is_free, MayTake, take_by, take, link, link_back, release_new, put_end}
 use Rattle.rules.specs.Striking.{take_victim_by, take_victim, mark, unlink_back, unlink, release_victim, strike_end}
 use Rattle.rules.specs.Stepping.{attach, detach, as_damage}
-use Rattle.promises.proofs.Laws.{compared, exact}
-use Rattle.promises.proofs.Sights.{Sight, sight, next_put, prev_put, mark_put, lock_put, status_put, guide_put, filled}
+use Rattle.promises.proofs.Laws.{compared}
+use Rattle.promises.proofs.Sights.{Sight, sight, next_put, prev_put, lock_put, status_put, guide_put, filled}
 use Rattle.promises.proofs.Writes.{sees_next, sees_prev, sees_mark, sees_lock, sees_status, sees_filled}
 use Rattle.promises.proofs.Finds.{needed, never_ok, same_ok, stands_seen, next_seen, marked_seen, lock_seen, status_seen}
 use Rattle.promises.proofs.Views.{Changes, puts, strikes, Strays, look_valid, first_valid, after_valid, stands, Way}

@@ -1,21 +1,18 @@
 -- That a write of one field of one place, and of one station, is seen as just that. Assumes nothing.
-use Rattle.std.proofs.Common.{◌≡◌, ℕ, zero, suc, ◌<◌, ◌≤◌, Bool, true, false, cond, ◌&&◌, eqb, ltb, List, [], ◌∷◌, map, length, get_or, set, Some, None, Option, sym, refl, ap, ◌∙◌, arith}
-use mathlib.Core.Path.{fun_ext}
+use Rattle.std.proofs.Common.{◌≡◌, ℕ, ◌<◌, Bool, true, false, cond, ◌&&◌, eqb, ltb, List, length, get_or, set, None, Option, sym, refl, ap, ◌∙◌, arith}
 use Rattle.std.proofs.lemmas.List.{length-set, get_or-set_same, get_or-set_other}
-use Rattle.std.proofs.lemmas.Bool.{cond-true, cond-false, eqb-true, and_parts}
+use Rattle.std.proofs.lemmas.Bool.{cond-true, eqb-true}
 use Rattle.std.proofs.lemmas.Bool.Decides.{nat_tests}
-use Rattle.std.specs.List.{slice_get}
-use Rattle.guides.specs.Meaning.{Meaning, low, high}
+use Rattle.guides.specs.Meaning.{Meaning, low}
 use Rattle.records.specs.declared.record.Place.{Place}
 use Rattle.records.specs.declared.record.Station.{Station}
 use Rattle.records.specs.declared.record.Status.{Status}
 use Rattle.records.specs.declared.record.Status.TheVariants.{Free}
-use Rattle.records.specs.declared.record.Task.{Task}
 use Rattle.records.specs.Records.{place, written, with_next, with_prev, with_mark, with_lock, with_status}
 use Rattle.engine.specs.Calling.{served, task_at}
-use Rattle.engine.specs.Settling.{idle, busy}
-use Rattle.promises.proofs.Laws.{Bound, bottom, exact, top}
-use Rattle.promises.proofs.Sights.{Sight, at_with, own_spot, sight, next_put, prev_put, mark_put, lock_put, status_put, task_put, guide_put, filled, field_set, field_kept}
+use Rattle.engine.specs.Settling.{idle}
+use Rattle.promises.proofs.Laws.{Bound, exact, top}
+use Rattle.promises.proofs.Sights.{Sight, at_with, own_spot, sight, next_put, prev_put, mark_put, lock_put, status_put, task_put, filled, field_set, field_kept}
 
 -- Two sights that read alike are equal.
 pub record Alike {K : Type 0} (s s' : Sight K) : Type 0 where

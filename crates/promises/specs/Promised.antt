@@ -1,5 +1,5 @@
 -- The promises of the index: what holds of every run, for an order of the keys. Assumes nothing.
-use Rattle.std.specs.Prelude.{◌≡◌, ℕ, ◌+◌, ◌-◌, ◌*◌, ◌^◌, ◌<◌, ◌≤◌, min, Bool, true, false, ◌||◌, eqb, ◌⊎◌, List, [], ◌∷◌, ◌++◌, length, drop, Some, None, Ok, Err, Option, Result}
+use Rattle.std.specs.Prelude.{◌≡◌, ℕ, ◌+◌, ◌-◌, ◌*◌, ◌^◌, ◌<◌, ◌≤◌, min, Bool, true, false, ◌⊎◌, List, [], ◌∷◌, ◌++◌, length, drop, Some, None, Ok, Err}
 use Rattle.std.specs.declared.cmp.Ordering.{Ordering}
 use Rattle.std.specs.List.{slice_get}
 use Rattle.guides.specs.Meaning.{low, high, has}
@@ -7,7 +7,6 @@ use Rattle.records.specs.declared.answer.Answer.{Answer}
 use Rattle.records.specs.declared.answer.Answer.TheVariants.{Yes}
 use Rattle.records.specs.declared.answer.Refusal.{Refusal}
 use Rattle.records.specs.declared.answer.Refusal.TheVariants.{ShortList}
-use Rattle.records.specs.declared.answer.Stepped.{Stepped}
 use Rattle.records.specs.declared.answer.Stepped.TheVariants.{Moved, Waits, Ended}
 use Rattle.records.specs.declared.record.Place.{Place}
 use Rattle.records.specs.declared.record.Status.{Status}
@@ -17,7 +16,7 @@ use Rattle.records.specs.declared.record.Work.{Work}
 use Rattle.records.specs.declared.record.Work.TheVariants.{Put, Strike, Look, First, After}
 use Rattle.engine.specs.Contents.{chain}
 use Rattle.promises.specs.Books.{Book, keys, work_at}
-use Rattle.promises.specs.Truths.{Holds, Adds, TakesAway, Rises, TrueOf}
+use Rattle.promises.specs.Truths.{Adds, TakesAway, Rises, TrueOf}
 use Rattle.promises.specs.Runs.{Call, Reply, Does, Run, works_in, since, given_steps, changed_times, changes_now, step, list, stepped, listed}
 
 -- Puts and strikes change the book and may wait; the other works only read.

@@ -3,7 +3,6 @@ use Rattle.std.specs.Prelude.{◌≡◌, ℕ, ◌+◌, Bool, true, false, cond, 
 use Rattle.std.specs.declared.cmp.Ordering.{Ordering}
 use Rattle.std.specs.Ordering.{is_eq}
 use Rattle.guides.specs.declared.answer.Mended.{Mended}
-use Rattle.guides.specs.Meaning.{Meaning}
 use Rattle.records.specs.declared.answer.Refusal.{Refusal}
 use Rattle.records.specs.declared.answer.Stepped.{Stepped}
 use Rattle.records.specs.declared.record.Place.{Place}

@@ -1,7 +1,7 @@
 -- That a guide's rules leave it an answer. Assumes nothing.
 use Rattle.std.proofs.Common.{◌≡◌, ℕ, Bool, true, false, List, refl}
 use Rattle.guides.specs.declared.answer.Beside.{Beside}
-use Rattle.guides.specs.declared.answer.Beside.TheVariants.{Absent, End, Stands}
+use Rattle.guides.specs.declared.answer.Beside.TheVariants.{Absent, End}
 use Rattle.guides.specs.declared.answer.Side.{Side}
 use Rattle.guides.specs.Meaning.{has}
 use Rattle.guides.specs.Rules.{AnswersBeside}

@@ -8,7 +8,7 @@ use Rattle.records.specs.declared.record.Phase.{Phase}
 use Rattle.records.specs.declared.record.Place.{Place}
 use Rattle.records.specs.declared.record.Task.{Task}
 use Rattle.records.specs.Records.{Ruled, Rules}
-use Rattle.rules.specs.Stepping.{Choice, Turn, reads, writes, guides, Guides, Turns, rule_of, MayChoose, changes_guide, FollowsRule}
+use Rattle.rules.specs.Stepping.{Choice, reads, writes, guides, Guides, Turns, rule_of, MayChoose, changes_guide, FollowsRule}
 
 module _ {K G : Type 0} (meaning : G → Meaning) (rank : K → K → Ordering) (me : ℕ) (t : Task K) (ps : List (Place K)) (g : G) where
   -- A rule may be told by the phase that the task is in.

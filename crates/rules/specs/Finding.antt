@@ -1,5 +1,5 @@
 -- The rules by which a work finds its place: ENTER, DOWN, CHECK, BACK, SEEK. Assumes nothing.
-use Rattle.std.specs.Prelude.{ℕ, ◌+◌, Bool, true, false, cond, List, Ok, Result, nat_le}
+use Rattle.std.specs.Prelude.{ℕ, ◌+◌, cond, List, Ok, Result, nat_le}
 use Rattle.std.specs.declared.cmp.Ordering.TheVariants.{Less, Equal, Greater}
 use Rattle.std.specs.declared.cmp.Ordering.{Ordering}
 use Rattle.guides.specs.declared.answer.Beside.{Beside}

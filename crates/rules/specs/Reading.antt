@@ -1,5 +1,5 @@
 -- The rules by which a look, an after and a first read the chain: ON and FIRST. Assumes nothing.
-use Rattle.std.specs.Prelude.{Bool, true, false, cond, List, Ok, Result, ◌==◌}
+use Rattle.std.specs.Prelude.{cond, List, Ok, Result, ◌==◌}
 use Rattle.std.specs.declared.cmp.Ordering.TheVariants.{Less, Equal, Greater}
 use Rattle.std.specs.declared.cmp.Ordering.{Ordering}
 use Rattle.guides.specs.Meaning.{low, high}

@@ -10,12 +10,12 @@ use std::test::Fail;
 #[test]
 fn cuts(rt: HostRuntime) -> Result<(), Fail> {
     let (line, rest) = first_line(b"run\n\nleave").ok_or("no line feed")?;
-    assert!(rt; line == b"run" && rest == b"\nleave");
+    assert!(rt; line == b"run".as_slice() && rest == b"\nleave".as_slice());
     assert!(rt; first_line(b"run").is_none());
     let (word, rest) = first_word(b"run ");
-    assert!(rt; word == b"run" && rest == Some(b""));
+    assert!(rt; word == b"run".as_slice() && rest == Some(b""));
     let (word, rest) = first_word(b"run");
-    assert!(rt; word == b"run" && rest.is_none());
+    assert!(rt; word == b"run".as_slice() && rest.is_none());
     Ok(())
 }
 

@@ -1,5 +1,5 @@
 -- A step, by how far it came.
-use Rattle.std.proofs.Common.{◌≡◌, Err, sym, ap, ◌∙◌, subst, arith, rules}
+use Rattle.std.proofs.Common.{Err, sym, ap, ◌∙◌, subst, rules}
 use Rattle.std.proofs.lemmas.Result.{err_from_is_err_and}
 use Rattle.engine.specs.Calling.{Steps, FindsStation}
 use Rattle.engine.proofs.Made.{no_station, no_work, rule_failed, rule_followed}

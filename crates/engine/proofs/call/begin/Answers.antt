@@ -1,5 +1,5 @@
 -- Begin, by how far it came.
-use Rattle.std.proofs.Common.{◌≡◌, false, set, Ok, Err, sym, ap, ◌∙◌, subst, rules}
+use Rattle.std.proofs.Common.{false, set, Ok, Err, sym, ap, ◌∙◌, subst, rules}
 use Rattle.std.proofs.lemmas.Result.{err_from_is_err_and}
 use Rattle.engine.specs.Calling.{beginning, Begins}
 use Rattle.engine.specs.Settling.{busy}

@@ -1,5 +1,5 @@
 -- Leave, by how far it came.
-use Rattle.std.proofs.Common.{◌≡◌, None, Ok, Err, sym, ap, ◌∙◌, subst, rules}
+use Rattle.std.proofs.Common.{Ok, Err, sym, ap, ◌∙◌, subst, rules}
 use Rattle.std.proofs.lemmas.Result.{err_from_is_err_and}
 use Rattle.engine.specs.Calling.{leaving, Leaves, FindsStation}
 use Rattle.engine.specs.Settling.{after_work}

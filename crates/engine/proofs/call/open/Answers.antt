@@ -1,5 +1,5 @@
 -- Open, by how far it came.
-use Rattle.std.proofs.Common.{◌≡◌, Ok, Err, sym, ap, ◌∙◌, subst, arith}
+use Rattle.std.proofs.Common.{Ok, Err, sym, ap, ◌∙◌, subst, arith}
 use Rattle.std.proofs.lemmas.Result.{err_from_is_err_and}
 use Rattle.engine.specs.Calling.{opening, opened_places, Opens}
 use Rattle.engine.proofs.Opening.{guide_refused, guide_too_small, opens}

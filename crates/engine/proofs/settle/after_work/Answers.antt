@@ -1,5 +1,5 @@
 -- Place after place stops waiting for the station.
-use Rattle.std.proofs.Common.{◌≡◌, map, get_or, set, sym, ap, ◌∙◌}
+use Rattle.std.proofs.Common.{map, get_or, set, sym, ap, ◌∙◌}
 use Rattle.std.proofs.lemmas.List.Edits.{map_over_more}
 use Rattle.std.proofs.lemmas.Bool.{cond-true}
 use Rattle.records.specs.Records.{with_status}

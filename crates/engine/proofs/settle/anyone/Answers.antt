@@ -1,5 +1,5 @@
 -- The loop goes on while nobody was found.
-use Rattle.std.proofs.Common.{◌≡◌, ◌+◌, Bool, true, false, ◌||◌, get_or, drop, sym, ap, ◌∙◌, arith}
+use Rattle.std.proofs.Common.{◌+◌, false, ◌||◌, drop, sym, ap, ◌∙◌, arith}
 use Rattle.std.proofs.lemmas.List.{drop_more, drop_all}
 use Rattle.engine.specs.Settling.{anyone}
 use Rattle.engine.proofs.settle.anyone.Goals as goal

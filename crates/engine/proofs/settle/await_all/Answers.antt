@@ -1,5 +1,5 @@
 -- Station after station is told.
-use Rattle.std.proofs.Common.{set, sym, ap, ◌∙◌, arith}
+use Rattle.std.proofs.Common.{set, sym, ap, ◌∙◌}
 use Rattle.std.proofs.lemmas.List.Edits.{map_over_more}
 use Rattle.engine.specs.Settling.{awaiting}
 use Rattle.engine.proofs.Mapped.{map_over_all}

@@ -1,5 +1,5 @@
 -- Open, on records that were made for the book.
-use Rattle.std.proofs.Common.{◌≡◌, replicate, ap, ◌∙◌, arith}
+use Rattle.std.proofs.Common.{replicate, ap, ◌∙◌, arith}
 use Rattle.std.proofs.lemmas.List.{with_items_is}
 use Rattle.records.specs.Records.{blank}
 use Rattle.engine.specs.Settling.{idle}

@@ -1,7 +1,7 @@
 -- A run, step by step.
 use Rattle.std.proofs.Common.{◌≡◌, ℕ, Ok, Err, sym, ap, ◌∙◌, subst, arith}
 use Rattle.std.proofs.lemmas.Result.{err_from_is_err_and}
-use Rattle.records.specs.declared.answer.Stepped.TheVariants.{Moved, Waits, Ended}
+use Rattle.records.specs.declared.answer.Stepped.TheVariants.{Waits, Ended}
 use Rattle.engine.specs.Calling.{Steps}
 use Rattle.play.specs.Running.{most_steps, Moves, Runs, none, more, stops, tires}
 use Rattle.play.proofs.running.run.Goals as goal

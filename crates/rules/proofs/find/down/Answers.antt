@@ -1,5 +1,5 @@
 -- DOWN as the step list has it, with the guide's answer, or any that its rules allow where it is not asked.
-use Rattle.std.proofs.Common.{Less, Equal, Greater, refl, ◌∙◌, arith, rules}
+use Rattle.std.proofs.Common.{Less, Equal, Greater, arith, rules}
 use Rattle.guides.specs.declared.answer.Side.TheVariants.{Lower}
 use Rattle.rules.proofs.Answerable.{some_beside}
 use Rattle.rules.proofs.Downs.{downs}

@@ -1,5 +1,5 @@
 -- The cut falls at the first mark, or there is none.
-use Rattle.std.proofs.Common.{◌≡◌, sym, add-one, arith}
+use Rattle.std.proofs.Common.{sym, add-one, arith}
 use native.Mathlib.Nat.{sub-zero}
 use Rattle.std.proofs.lemmas.List.{take_rest}
 use Rattle.script.proofs.Cuts.{cut_found, cut_nowhere}

@@ -1,5 +1,5 @@
 -- The bytes are within the bounds up to one that is not, or to the end.
-use Rattle.std.proofs.Common.{◌≡◌, ◌+◌, ◌<◌, not, ◌⊎◌, ◌∷◌, get_or, drop, sym, ap, ◌∙◌, inl, inr}
+use Rattle.std.proofs.Common.{◌+◌, ◌<◌, not, ◌⊎◌, get_or, drop, sym, ap, ◌∙◌, inl, inr}
 use Rattle.std.proofs.lemmas.List.{at_drop_more, at_drop_all}
 use Rattle.script.specs.Words.{all_within}
 use Rattle.script.proofs.Within.{within_more, within_stops, made_of_within, made_of_outside}

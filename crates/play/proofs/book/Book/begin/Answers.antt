@@ -1,5 +1,5 @@
 -- The engine's begin, on the book's own stations.
-use Rattle.std.proofs.Common.{◌≡◌, sym, refl, subst, arith}
+use Rattle.std.proofs.Common.{sym, refl, subst, arith}
 use Rattle.std.proofs.lemmas.List.{with_items_is}
 use Rattle.engine.specs.Calling.{beginning, Begins}
 use Rattle.play.specs.Booked.{ingredient, stations}

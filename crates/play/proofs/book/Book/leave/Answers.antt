@@ -1,5 +1,5 @@
 -- The engine's leave, on the book's own records.
-use Rattle.std.proofs.Common.{◌≡◌, refl, arith}
+use Rattle.std.proofs.Common.{refl, arith}
 use Rattle.std.proofs.lemmas.List.{with_items_is}
 use Rattle.engine.specs.Calling.{leaving, Leaves}
 use Rattle.play.proofs.Lent.{moved}
