@@ -29,11 +29,11 @@ take_put_in order part count at place below fits turned =
     let back = between at count order in
     let free = get_or order count 0 in
     let post = post_of at (count + 1 - at) order in
-    let part-is = turned ∙ ap turned_right (between_more order at count 0 below fits) ∙ turned_right_push back free in
+    let part_is = turned ∙ ap turned_right (between_more order at count 0 below fits) ∙ turned_right_push back free in
     let long = length-take-le at order (omega arith) in
     let whole : length (front ++ place ∷ back) ≡ count + 1 =
     omega (arith, length-append front (place ∷ back), length-between order at count (omega arith)) in
-    ap (λ ys. take (count + 1) (set (front ++ (ys ++ post)) at place)) part-is
+    ap (λ ys. take (count + 1) (set (front ++ (ys ++ post)) at place)) part_is
     ∙ ap (take (count + 1)) (set_at front free (back ++ post) place at long)
     ∙ ap (take (count + 1)) (sym (append_assoc front (place ∷ back) post))
     ∙ take_at (front ++ place ∷ back) post (count + 1) whole

@@ -20,12 +20,12 @@ module _ {G : Type 0} (meaning : G → Meaning) (most : ℕ) (ps : List (Place I
   refused_by (Err x) e ps' ss' g' did = cc did.0
 
   -- The records that were made are those that were asked for.
-  module _ (asked-places : List (Place Ingredient)) (asked-stations : List (Station Ingredient)) (same-places : ps ≡ asked-places) (same-stations : ss ≡ asked-stations) where
-    asked : opening most ps ss ≡ opening most asked-places asked-stations
-    asked = ap (λ x. opening most x ss) same-places ∙ ap (opening most asked-places) same-stations
+  module _ (asked_places : List (Place Ingredient)) (asked_stations : List (Station Ingredient)) (same_places : ps ≡ asked_places) (same_stations : ss ≡ asked_stations) where
+    asked : opening most ps ss ≡ opening most asked_places asked_stations
+    asked = ap (λ x. opening most x ss) same_places ∙ ap (opening most asked_places) same_stations
 
     pub book_opened : (b : Book G) (ps' : List (Place Ingredient)) (ss' : List (Station Ingredient)) → places b ≡ ps' → stations b ≡ ss'
-        → Opens meaning (opening most ps ss) ps ss g (Ok tt) ps' ss' b.guide → OpensBook meaning (opening most asked-places asked-stations) (Ok b)
+        → Opens meaning (opening most ps ss) ps ss g (Ok tt) ps' ss' b.guide → OpensBook meaning (opening most asked_places asked_stations) (Ok b)
     book_opened b ps' ss' p s did =
         subst (λ told. OpensBook meaning told (Ok b)) asked
         (accepted_by (opening most ps ss) b
@@ -33,5 +33,5 @@ module _ {G : Type 0} (meaning : G → Meaning) (most : ℕ) (ps : List (Place I
         (subst (λ x. Opens meaning (opening most ps ss) ps ss g (Ok tt) ps' x b.guide) (sym s) did)))
 
     pub book_refused : (e : Refusal) (ps' : List (Place Ingredient)) (ss' : List (Station Ingredient)) (g' : G)
-        → Opens meaning (opening most ps ss) ps ss g (Err e) ps' ss' g' → OpensBook meaning (opening most asked-places asked-stations) (Err e)
+        → Opens meaning (opening most ps ss) ps ss g (Err e) ps' ss' g' → OpensBook meaning (opening most asked_places asked_stations) (Err e)
     book_refused e ps' ss' g' did = subst (λ told. OpensBook meaning told (Err e)) asked (refused_by (opening most ps ss) e ps' ss' g' did)

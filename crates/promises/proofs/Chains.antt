@@ -41,12 +41,12 @@ module _ {K : Type 0} (rank : K → K → Ordering) (laws : Laws rank) (spot : �
   same_first : (x y : ℕ) (xs ys : List ℕ) → Rising rank spot (x ∷ xs) → Rising rank spot (y ∷ ys)
       → ((p : ℕ) → has p (x ∷ xs) ≡ has p (y ∷ ys)) → x ≡ y
   same_first x y xs ys r q same =
-      let in-xs : has y (x ∷ xs) ≡ true = same y ∙ or_left (eqb y y) (has y ys) (eq-eqb y y refl) in
+      let in_xs : has y (x ∷ xs) ≡ true = same y ∙ or_left (eqb y y) (has y ys) (eq-eqb y y refl) in
       let in_ys : has x (y ∷ ys) ≡ true = sym (same x) ∙ or_left (eqb x x) (has x xs) (eq-eqb x x refl) in
       ⊎_elim (λ e. eqb-true x y e) (λ later.
       ⊎_elim (λ e. sym (eqb-true y x e)) (λ sooner. absurd (true≢false (sym (q.0 x sooner) ∙ before_once rank laws (spot x) (spot y) (r.0 y later))))
       (or_cases (eqb y x) (has x ys) in_ys))
-      (or_cases (eqb x y) (has y xs) in-xs)
+      (or_cases (eqb x y) (has y xs) in_xs)
 
   same_rest : (x p : ℕ) (xs ys : List ℕ) → has x xs ≡ false → has x ys ≡ false → has p (x ∷ xs) ≡ has p (x ∷ ys) → has p xs ≡ has p ys
   same_rest x p xs ys h k e =

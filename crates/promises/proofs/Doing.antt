@@ -178,7 +178,7 @@ module _ {K : Type 0} {o : Outcome K} where
 
 module _ {K : Type 0} where
   not_yes : {P : Type 0} {a b : Answer K} → a ≡ b → a ≡ Yes → (b ≡ Yes → ⊥) → P
-  not_yes e is no-yes = absurd (no-yes (sym e ∙ is))
+  not_yes e is no_yes = absurd (no_yes (sym e ∙ is))
 
   -- A work that ends: it is a put at its end, or it never changed the keys.
   pub data Ending (t : Task K) (a : Answer K) : Type 0 where

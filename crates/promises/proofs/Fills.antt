@@ -34,10 +34,10 @@ rising_same rank f g (x ∷ xs) same r = (
   rising_same rank f g xs (λ y h. same y (or_right (eqb x y) (has y xs) h)) r.1,
 )
 
-module _ {K : Type 0} (rank : K → K → Ordering) (laws : Laws rank) (s : Sight K) (inv : Inv rank s) (me : ℕ) (t : Task K) (is-task : s.task me ≡ Some t) (e : t.phase ≡ Take)
+module _ {K : Type 0} (rank : K → K → Ordering) (laws : Laws rank) (s : Sight K) (inv : Inv rank s) (me : ℕ) (t : Task K) (is_task : s.task me ≡ Some t) (e : t.phase ≡ Take)
     (p : ℕ) (two : 2 ≤ p) (within : p < s.size) (free : s.status p ≡ Free) where
   st : Stands rank s.spot s.next s.prev s.marked s.status t
-  st = inv.stands me t is-task
+  st = inv.stands me t is_task
 
   by : (f : ℕ → Bool) → f 4 ≡ true → f (rung t.phase) ≡ true
   by f h = ap (λ x. f (rung x)) e ∙ h
@@ -181,7 +181,7 @@ module _ {K : Type 0} (rank : K → K → Ordering) (laws : Laws rank) (s : Sigh
   b_chained = st.at_chained (by is_placed refl)
 
   b_not_high : b ≡ high → ⊥
-  b_not_high = at_not_high rank laws s inv me t is-task (by is_placed refl)
+  b_not_high = at_not_high rank laws s inv me t is_task (by is_placed refl)
 
   module _ (n : ℕ) where
     abbrev u : Task K
@@ -211,12 +211,12 @@ module _ {K : Type 0} (rank : K → K → Ordering) (laws : Laws rank) (s : Sigh
         own_is = grind (arith, nat_tests)
 
     fails : (f : ℕ → Bool) → f 4 ≡ false → f 5 ≡ false → (q : ℕ) → other_in f (Some u) q ≡ other_in f (Some t) q
-    fails f h k = both_fail rank s inv me t is-task f u (ap (λ y. f (rung y)) e ∙ h) k
+    fails f h k = both_fail rank s inv me t is_task f u (ap (λ y. f (rung y)) e ∙ h) k
 
     holder_still : (f : ℕ → Bool) → f 4 ≡ false → f 5 ≡ false → (q : ℕ) → (p ≡ q → ⊥) → holder_in f task' (lock' q) q ≡ holder_in f s.task (s.lock q) q
     holder_still f h k q d =
         ap (λ l. holder_in f task' l q) (else s.lock (Some me) q d)
-        ∙ holder_same s.task me (Some u) f (λ r. fails f h k r ∙ ap (λ y. other_in f y r) (sym is-task)) (s.lock q) q
+        ∙ holder_same s.task me (Some u) f (λ r. fails f h k r ∙ ap (λ y. other_in f y r) (sym is_task)) (s.lock q) q
 
     locks' : (i q : ℕ) → locked_by i (lock' q) ≡ holds (task' i) q
     locks' i q =
@@ -224,7 +224,7 @@ module _ {K : Type 0} (rank : K → K → Ordering) (laws : Laws rank) (s : Sigh
         at_with_both s.task me i (Some u) (λ y. locked_by i (lock' q) ≡ holds y q)
         (λ same. at_with_both s.lock p q (Some me) (λ y. locked_by i y ≡ holds (Some u) q)
         (λ k. eq-eqb me i same ∙ sym (or_right (eqb b q) (eqb p q) (eq-eqb p q k)))
-        (λ d. old ∙ ap (λ j. holds (s.task j) q) (sym same) ∙ ap (λ y. holds y q) is-task
+        (λ d. old ∙ ap (λ j. holds (s.task j) q) (sym same) ∙ ap (λ y. holds y q) is_task
         ∙ ap (λ y. (holds_at (rung y) && eqb b q) || (holds_other (rung y) && eqb t.other q)) e ∙ ap (λ c. eqb b q || c) (sym (ne_eqb p q d))))
         (λ d. at_with_both s.lock p q (Some me) (λ y. locked_by i y ≡ holds (s.task i) q)
         (λ k. ne_eqb me i d ∙ sym (sym old ∙ ap (λ r. locked_by i (s.lock r)) (sym k) ∙ ap (locked_by i) unlocked)) (λ _. old))
@@ -262,14 +262,14 @@ module _ {K : Type 0} (rank : K → K → Ordering) (laws : Laws rank) (s : Sigh
           ∙ ap (λ y. cond (holder_in is_lagging task' (lock' q) q) y q) (sym (else s.prev b q (not_p q c)));
       locks = locks';
       fit = λ i w. at_with_both s.task me i (Some u) (λ y. y ≡ Some w → fits w.work (group w.phase) ≡ true)
-          (λ _ k. ap (λ y. fits y.work (group y.phase)) (sym (just u w k)) ∙ ap (λ y. fits t.work (group y)) (sym e) ∙ inv.fit me t is-task) (λ _. inv.fit i w);
+          (λ _ k. ap (λ y. fits y.work (group y.phase)) (sym (just u w k)) ∙ ap (λ y. fits t.work (group y)) (sym e) ∙ inv.fit me t is_task) (λ _. inv.fit i w);
       seen = λ i w. at_with_both s.task me i (Some u) (λ y. y ≡ Some w → (is_chained (status' w.at) || (marked' w.at && waits_for i (status' w.at))) ≡ true)
-          (λ same k. seen' i w.at (subst (λ j. seen_by s j w.at ≡ true) same (ap (λ y. seen_by s me y.at) (sym (just u w k)) ∙ inv.seen me t is-task)))
+          (λ same k. seen' i w.at (subst (λ j. seen_by s j w.at ≡ true) same (ap (λ y. seen_by s me y.at) (sym (just u w k)) ∙ inv.seen me t is_task)))
           (λ _ k. seen' i w.at (inv.seen i w k));
       stands = λ i w. at_with_both s.task me i (Some u) (λ y. y ≡ Some w → Stands rank spot' next' prev' marked' status' w)
           (λ _ k. subst (Stands rank spot' next' prev' marked' status') (just u w k) own) (λ d k. others i w d k);
       marks = λ q c m. let has = inv.marks q (was q c) (sym (else s.marked false q (not_p q c)) ∙ m) in
-          (has.0, other_alike rank s inv me t is-task is_striking u (fails is_striking refl refl) has.0 q ∙ has.1);
+          (has.0, other_alike rank s inv me t is_task is_striking u (fails is_striking refl refl) has.0 q ∙ has.1);
       hands = λ q h. elim (cases_eq p q) [
         | inl same ↦ (me, ap (λ y. other_in is_handing y q) (at_with_same s.task me (Some u)) ∙ eq-eqb p q same)
         | inr d ↦ hand q (inv.hands q (sym (else s.status InHand q d) ∙ h))
@@ -279,7 +279,7 @@ module _ {K : Type 0} (rank : K → K → Ordering) (laws : Laws rank) (s : Sigh
         | inr their ↦ elim (hand_cases j q z) [ inl mine ↦ absurd (hand_not_p i q their mine.1) | inr also ↦ inv.hands_apart i j q their also ]
       ];
       rests = λ q w r. let o = retired q w r in let k = inv.rests q w o.1 in (else s.marked false q o.0 ∙ k.0, k.1);
-      awaits = λ q w r i h. awaited_with rank s inv me t is-task u refl i (inv.awaits q w (retired q w r).1 i h);
+      awaits = λ q w r i h. awaited_with rank s inv me t is_task u refl i (inv.awaits q w (retired q w r).1 i h);
       next_seen = λ q w r i h. let o = retired q w r in
           ap (λ y. is_chained (status' y) || (marked' y && waits_for i (status' y))) (else s.next _ q o.0) ∙ seen' i (s.next q) (inv.next_seen q w o.1 i h);
       prev_seen = λ q w r i h. let o = retired q w r in
@@ -308,7 +308,7 @@ module _ {K : Type 0} (rank : K → K → Ordering) (laws : Laws rank) (s : Sigh
         hand q has = (
           has.0,
           at_with_both s.task me has.0 (Some u) (λ y. other_in is_handing y q ≡ true)
-              (λ same. never (sym has.1 ∙ ap (λ j. other_in is_handing (s.task j) q) (sym same) ∙ ap (λ y. other_in is_handing y q) is-task ∙ ap (λ y. is_handing (rung y) && eqb t.other q) e))
+              (λ same. never (sym has.1 ∙ ap (λ j. other_in is_handing (s.task j) q) (sym same) ∙ ap (λ y. other_in is_handing y q) is_task ∙ ap (λ y. is_handing (rung y) && eqb t.other q) e))
               (λ _. has.1),
         )
 

@@ -176,14 +176,14 @@ module _ {K : Type 0} (rank : K → K → Ordering) (laws : Laws rank) (s : Sigh
           hidden j h =
               let found = other_found is_hiding (s.task j) (s.next t.other) h in
               let u = found.0 in
-              let u-joined = hiding_joined (rung u.phase) found.2 in
-              let u-placed = joined_placed (rung u.phase) u-joined in
-              let u-at = (inv.stands j u found.1).at_chained u-placed in
+              let u_joined = hiding_joined (rung u.phase) found.2 in
+              let u_placed = joined_placed (rung u.phase) u_joined in
+              let u_at = (inv.stands j u found.1).at_chained u_placed in
               let one : u.at ≡ t.other =
-              next_apart rank laws s inv u.at t.other u-at other_ch (at_not_high rank laws s inv j u found.1 (placed_is_late rank laws s inv j u found.1 u-placed))
-              (other_not_high rank laws s inv i t is keyed) ((inv.stands j u found.1).joined u-joined ∙ found.3) in
+              next_apart rank laws s inv u.at t.other u_at other_ch (at_not_high rank laws s inv j u found.1 (placed_is_late rank laws s inv j u found.1 u_placed))
+              (other_not_high rank laws s inv i t is keyed) ((inv.stands j u found.1).joined u_joined ∙ found.3) in
               let mine = one_holder rank laws s inv i j t.other has_other
-              (subst (λ p. holds (s.task j) p ≡ true) one (holds_its_at rank laws s inv j u found.1 (placed_holds (rung u.phase) u-placed))) in
+              (subst (λ p. holds (s.task j) p ≡ true) one (holds_its_at rank laws s inv j u found.1 (placed_holds (rung u.phase) u_placed))) in
               let same : t ≡ u = same_work j u found.1 mine in
               at_not_other (sym one ∙ sym (ap (λ x. x.at) same))
 

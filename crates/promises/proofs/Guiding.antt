@@ -91,9 +91,9 @@ module _ {K : Type 0} (rank : K → K → Ordering) (laws : Laws rank) (spot : �
       go true e rest = (first e, ((λ z h. above z (or_right (eqb y z) (has z ys) h) (here e z h)), r.1))
       go false e rest = ((λ z h. later z (sym (has_with_after b x z ys) ∙ h)), rest)
 
-module _ {K : Type 0} (rank : K → K → Ordering) (laws : Laws rank) (s : Sight K) (inv : Inv rank s) (me : ℕ) (t : Task K) (is-task : s.task me ≡ Some t) where
+module _ {K : Type 0} (rank : K → K → Ordering) (laws : Laws rank) (s : Sight K) (inv : Inv rank s) (me : ℕ) (t : Task K) (is_task : s.task me ≡ Some t) where
   st : Stands rank s.spot s.next s.prev s.marked s.status t
-  st = inv.stands me t is-task
+  st = inv.stands me t is_task
 
   -- Another guide, and another task that shows only in it.
   module _ (u : Task K) (g : Meaning) (aw : u.awaited ≡ t.awaited) (sound : Sound rank s me u) (places : g.places ≡ s.size) (rises : Rising rank s.spot g.sequence)
@@ -117,17 +117,17 @@ module _ {K : Type 0} (rank : K → K → Ordering) (laws : Laws rank) (s : Sigh
       apart = inv.apart;
       follows = inv.follows;
       backs = λ p c h. inv.backs p c h
-          ∙ ap (λ x. cond x (s.prev p) p) (sym (holder_same s.task me (Some u) is_lagging (λ q. lagging q ∙ ap (λ y. other_in is_lagging y q) (sym is-task)) (s.lock p) p));
+          ∙ ap (λ x. cond x (s.prev p) p) (sym (holder_same s.task me (Some u) is_lagging (λ q. lagging q ∙ ap (λ y. other_in is_lagging y q) (sym is_task)) (s.lock p) p));
       locks = λ i p. inv.locks i p
-          ∙ sym (at_with_both s.task me i (Some u) (λ y. holds y p ≡ holds (s.task i) p) (λ k. holding p ∙ ap (λ y. holds y p) (sym is-task) ∙ ap (λ j. holds (s.task j) p) k) (λ _. refl));
+          ∙ sym (at_with_both s.task me i (Some u) (λ y. holds y p ≡ holds (s.task i) p) (λ k. holding p ∙ ap (λ y. holds y p) (sym is_task) ∙ ap (λ j. holds (s.task j) p) k) (λ _. refl));
       fit = λ i w k. (all i w k).fit;
       seen = λ i w k. (all i w k).seen;
       stands = λ i w k. (all i w k).stands;
-      marks = λ p c m. let has = inv.marks p c m in (has.0, other_alike rank s inv me t is-task is_striking u striking has.0 p ∙ has.1);
-      hands = λ p h. let has = inv.hands p h in (has.0, other_alike rank s inv me t is-task is_handing u handing has.0 p ∙ has.1);
-      hands_apart = λ i j p y z. inv.hands_apart i j p (sym (other_alike rank s inv me t is-task is_handing u handing i p) ∙ y) (sym (other_alike rank s inv me t is-task is_handing u handing j p) ∙ z);
+      marks = λ p c m. let has = inv.marks p c m in (has.0, other_alike rank s inv me t is_task is_striking u striking has.0 p ∙ has.1);
+      hands = λ p h. let has = inv.hands p h in (has.0, other_alike rank s inv me t is_task is_handing u handing has.0 p ∙ has.1);
+      hands_apart = λ i j p y z. inv.hands_apart i j p (sym (other_alike rank s inv me t is_task is_handing u handing i p) ∙ y) (sym (other_alike rank s inv me t is_task is_handing u handing j p) ∙ z);
       rests = inv.rests;
-      awaits = λ p w r i h. awaited_with rank s inv me t is-task u aw i (inv.awaits p w r i h);
+      awaits = λ p w r i h. awaited_with rank s inv me t is_task u aw i (inv.awaits p w r i h);
       next_seen = inv.next_seen;
       prev_seen = inv.prev_seen;
       guide_rises = rises;
@@ -148,8 +148,8 @@ module _ {K : Type 0} (rank : K → K → Ordering) (laws : Laws rank) (s : Sigh
 
   shown_elsewhere : (u : Task K) → u.other ≡ t.other → (p : ℕ) → (t.other ≡ p → ⊥) → shown (task_put me (Some u) s) p ≡ shown s p
   shown_elsewhere u same p d =
-      ap (λ y. (chained s p && not y) || holder_in is_detaching (at_with s.task me (Some u)) (s.lock p) p) (lag_elsewhere rank laws s inv me t is-task is_hiding u same p d)
-      ∙ ap (λ y. (chained s p && not (holder_in is_hiding s.task (s.lock p) p)) || y) (lag_elsewhere rank laws s inv me t is-task is_detaching u same p d)
+      ap (λ y. (chained s p && not y) || holder_in is_detaching (at_with s.task me (Some u)) (s.lock p) p) (lag_elsewhere rank laws s inv me t is_task is_hiding u same p d)
+      ∙ ap (λ y. (chained s p && not (holder_in is_hiding s.task (s.lock p) p)) || y) (lag_elsewhere rank laws s inv me t is_task is_detaching u same p d)
 
   module _ (o : Outcome K) (mid : Sight K) where
     abbrev It : Type 0
@@ -160,16 +160,16 @@ module _ {K : Type 0} (rank : K → K → Ordering) (laws : Laws rank) (s : Sigh
         Kept.goes (into ReleaseVictim t) oc (λ n. subst (λ x. Inv rank (task_put me (Some (with_steps n (into ReleaseVictim t))) x)) (sym se)
         (guide_write_keeps (with_steps n (into ReleaseVictim t)) (detached t.other s.guide) refl (sound n) inv.guide_size
         (rising_without rank laws s.spot t.other s.guide.sequence inv.guide_rises)
-        (holds_by rank laws s inv me t is-task Detach e 13 refl refl) (other_by rank laws s inv me t is-task is_lagging Detach e 13 refl)
-        (other_by rank laws s inv me t is-task is_striking Detach e 13 refl) (other_by rank laws s inv me t is-task is_handing Detach e 13 refl) (shows n)))
+        (holds_by rank laws s inv me t is_task Detach e 13 refl refl) (other_by rank laws s inv me t is_task is_lagging Detach e 13 refl)
+        (other_by rank laws s inv me t is_task is_striking Detach e 13 refl) (other_by rank laws s inv me t is_task is_handing Detach e 13 refl) (shows n)))
       where
         by : (f : ℕ → Bool) → f 12 ≡ true → f (rung t.phase) ≡ true
         by f h = ap (λ x. f (rung x)) e ∙ h
 
         sound : (n : ℕ) → Sound rank s me (with_steps n (into ReleaseVictim t))
         sound n = record {
-          fit = ap (λ y. fits t.work (group y)) (sym e) ∙ inv.fit me t is-task;
-          seen = inv.seen me t is-task;
+          fit = ap (λ y. fits t.work (group y)) (sym e) ∙ inv.fit me t is_task;
+          seen = inv.seen me t is_task;
           stands = record {
             at_chained = λ _. st.at_chained (by is_placed refl);
             at_unmarked = λ _. st.at_unmarked (by is_placed refl);
@@ -195,7 +195,7 @@ module _ {K : Type 0} (rank : K → K → Ordering) (laws : Laws rank) (s : Sigh
               (rising_once rank laws s.spot t.other s.guide.sequence inv.guide_rises
               ∙ nothing (chained s t.other) (holder_in is_hiding (at_with s.task me (Some (with_steps n (into ReleaseVictim t)))) (s.lock t.other) t.other) _
               (ap is_chained (st.in_hand (by is_handing refl)))
-              (at_other (with_steps n (into ReleaseVictim t)) refl (holds_own_other rank laws s inv me t is-task (by holds_other refl)) is_detaching refl))
+              (at_other (with_steps n (into ReleaseVictim t)) refl (holds_own_other rank laws s inv me t is_task (by holds_other refl)) is_detaching refl))
           | inr d ↦ has_without_other t.other p s.guide.sequence d ∙ inv.guide_shows p ∙ sym (shown_elsewhere (with_steps n (into ReleaseVictim t)) refl p d)
         ]
 
@@ -218,31 +218,31 @@ module _ {K : Type 0} (rank : K → K → Ordering) (laws : Laws rank) (s : Sigh
       b_below_x = ap (before rank (s.spot t.at)) (st.keyed (by is_keyed refl)) ∙ st.at_below (ap (λ y. leb 3 (group y)) e)
 
       lock_b : s.lock t.at ≡ Some me
-      lock_b = holds_own_at rank laws s inv me t is-task (by holds_at refl)
+      lock_b = holds_own_at rank laws s inv me t is_task (by holds_at refl)
 
       lock_x : s.lock t.other ≡ Some me
-      lock_x = holds_own_other rank laws s inv me t is-task (by holds_other refl)
+      lock_x = holds_own_other rank laws s inv me t is_task (by holds_other refl)
 
       b_shown : has t.at s.guide.sequence ≡ true
       b_shown =
           inv.guide_shows t.at
           ∙ ap (λ y. (chained s t.at && not y) || holder_in is_detaching s.task (s.lock t.at) t.at)
-          (at_not_other rank laws s inv me t is-task is_hiding (by holds_at refl) (joined_differ rank laws s inv me t is-task joins))
+          (at_not_other rank laws s inv me t is_task is_hiding (by holds_at refl) (joined_differ rank laws s inv me t is_task joins))
           ∙ ap (λ y. (y && true) || holder_in is_detaching s.task (s.lock t.at) t.at) b_chained
 
       -- Between two chained places there is nothing that a work detaches, unless that work holds the first one's lock.
       beyond_x : (y a : ℕ) → chained s a ≡ true → (a ≡ high → ⊥) → (t.at ≡ a → ⊥) → (t.other ≡ a → ⊥) → before rank (s.spot a) (s.spot y) ≡ true
           → before rank (s.spot y) (s.spot (s.next a)) ≡ true → before rank (s.spot t.at) (s.spot y) ≡ true → before rank (s.spot t.other) (s.spot y) ≡ true
-      beyond_x y a c h db dx low-y y-up b-y = elim (inv.apart t.at a b_chained c) [
+      beyond_x y a c h db dx low_y y_up b_y = elim (inv.apart t.at a b_chained c) [
         | inl same ↦ absurd (db same)
         | inr sides ↦ elim sides [
           | inl up ↦ elim (inv.gap t.at a b_chained c up) [
             | inl same ↦ absurd (dx (sym next_b ∙ same))
-            | inr less ↦ chain t.other a y (ap (λ q. before rank (s.spot q) (s.spot a)) (sym next_b) ∙ less) low-y
+            | inr less ↦ chain t.other a y (ap (λ q. before rank (s.spot q) (s.spot a)) (sym next_b) ∙ less) low_y
           ]
           | inr down ↦ elim (inv.gap a t.at c b_chained down) [
-            | inl same ↦ round y t.at (ap (λ q. before rank (s.spot y) (s.spot q)) (sym same) ∙ y-up) b-y
-            | inr less ↦ round y t.at (chain y (s.next a) t.at y-up less) b-y
+            | inl same ↦ round y t.at (ap (λ q. before rank (s.spot y) (s.spot q)) (sym same) ∙ y_up) b_y
+            | inr less ↦ round y t.at (chain y (s.next a) t.at y_up less) b_y
           ]
         ]
       ]
@@ -315,7 +315,7 @@ module _ {K : Type 0} (rank : K → K → Ordering) (laws : Laws rank) (s : Sigh
             where
               mine : (j : ℕ) (v : Task K) → s.task j ≡ Some v → is_detaching (rung v.phase) ≡ true → j ≡ me → ⊥
               mine j v is r who =
-                  let same : v ≡ t = just v t (sym is ∙ ap s.task who ∙ is-task) in
+                  let same : v ≡ t = just v t (sym is ∙ ap s.task who ∙ is_task) in
                   never (sym r ∙ ap (λ y. is_detaching (rung y.phase)) same ∙ ap (λ y. is_detaching (rung y)) e)
 
       attach_shows : (n : ℕ) (p : ℕ) → has p (with_after t.at t.other s.guide.sequence) ≡ shown (task_put me (Some (with_steps n (into ReleaseNew t))) s) p
@@ -323,7 +323,7 @@ module _ {K : Type 0} (rank : K → K → Ordering) (laws : Laws rank) (s : Sigh
         | inl same ↦ ap (λ c. (c && eqb t.other p) || has p s.guide.sequence) b_shown ∙ ap (λ c. c || has p s.guide.sequence) (eq-eqb t.other p same)
             ∙ subst (λ q. true ≡ shown (task_put me (Some (with_steps n (into ReleaseNew t))) s) q) same
             (all_shown (chained s t.other) (holder_in is_hiding (at_with s.task me (Some (with_steps n (into ReleaseNew t)))) (s.lock t.other) t.other) _
-            (joined_chained rank laws s inv me t is-task joins) (at_other (with_steps n (into ReleaseNew t)) refl lock_x is_hiding refl))
+            (joined_chained rank laws s inv me t is_task joins) (at_other (with_steps n (into ReleaseNew t)) refl lock_x is_hiding refl))
         | inr d ↦ ap (λ c. (has t.at s.guide.sequence && c) || has p s.guide.sequence) (ne_eqb t.other p d)
             ∙ ap (λ c. c || has p s.guide.sequence) (and_right (has t.at s.guide.sequence) false refl)
             ∙ inv.guide_shows p ∙ sym (shown_elsewhere (with_steps n (into ReleaseNew t)) refl p d)
@@ -337,13 +337,13 @@ module _ {K : Type 0} (rank : K → K → Ordering) (laws : Laws rank) (s : Sigh
           Kept.goes (into ReleaseNew t) oc (λ n. subst (λ x. Inv rank (task_put me (Some (with_steps n (into ReleaseNew t))) x)) (sym se)
           (guide_write_keeps (with_steps n (into ReleaseNew t)) (attached t.at t.other s.guide) refl (sound n) inv.guide_size
           (rising_with_after rank laws s.spot t.at t.other s.guide.sequence inv.guide_rises b_below_x above)
-          (holds_by rank laws s inv me t is-task Attach e 8 refl refl) (other_by rank laws s inv me t is-task is_lagging Attach e 8 refl)
-          (other_by rank laws s inv me t is-task is_striking Attach e 8 refl) (other_by rank laws s inv me t is-task is_handing Attach e 8 refl) (attach_shows n)))
+          (holds_by rank laws s inv me t is_task Attach e 8 refl refl) (other_by rank laws s inv me t is_task is_lagging Attach e 8 refl)
+          (other_by rank laws s inv me t is_task is_striking Attach e 8 refl) (other_by rank laws s inv me t is_task is_handing Attach e 8 refl) (attach_shows n)))
         where
           sound : (n : ℕ) → Sound rank s me (with_steps n (into ReleaseNew t))
           sound n = record {
-            fit = ap (λ y. fits t.work (group y)) (sym e) ∙ inv.fit me t is-task;
-            seen = inv.seen me t is-task;
+            fit = ap (λ y. fits t.work (group y)) (sym e) ∙ inv.fit me t is_task;
+            seen = inv.seen me t is_task;
             stands = record {
               at_chained = λ _. b_chained;
               at_unmarked = λ _. st.at_unmarked (by is_placed refl);

@@ -25,9 +25,9 @@ use Rattle.promises.proofs.Releasing.{in_hand_differ}
 use Rattle.promises.proofs.Sees.{at_not_other}
 use Rattle.promises.proofs.Marking.{other_by, holds_by}
 
-module _ {K : Type 0} (rank : K → K → Ordering) (laws : Laws rank) (s : Sight K) (inv : Inv rank s) (me : ℕ) (t : Task K) (is-task : s.task me ≡ Some t) (e : t.phase ≡ Link) where
+module _ {K : Type 0} (rank : K → K → Ordering) (laws : Laws rank) (s : Sight K) (inv : Inv rank s) (me : ℕ) (t : Task K) (is_task : s.task me ≡ Some t) (e : t.phase ≡ Link) where
   st : Stands rank s.spot s.next s.prev s.marked s.status t
-  st = inv.stands me t is-task
+  st = inv.stands me t is_task
 
   by : (f : ℕ → Bool) → f 5 ≡ true → f (rung t.phase) ≡ true
   by f h = ap (λ x. f (rung x)) e ∙ h
@@ -46,7 +46,7 @@ module _ {K : Type 0} (rank : K → K → Ordering) (laws : Laws rank) (s : Sigh
   b_chained = st.at_chained (by is_placed refl)
 
   b_not_high : b ≡ high → ⊥
-  b_not_high = at_not_high rank laws s inv me t is-task (by is_placed refl)
+  b_not_high = at_not_high rank laws s inv me t is_task (by is_placed refl)
 
   x_in_hand : s.status x ≡ InHand
   x_in_hand = st.in_hand (by is_handing refl)
@@ -55,7 +55,7 @@ module _ {K : Type 0} (rank : K → K → Ordering) (laws : Laws rank) (s : Sigh
   x_unchained = ap is_chained x_in_hand
 
   x_not_b : x ≡ b → ⊥
-  x_not_b = in_hand_differ rank laws s inv me t is-task (by is_handing refl) (by is_placed refl)
+  x_not_b = in_hand_differ rank laws s inv me t is_task (by is_handing refl) (by is_placed refl)
 
   b_not_x : b ≡ x → ⊥
   b_not_x h = x_not_b (sym h)
@@ -64,7 +64,7 @@ module _ {K : Type 0} (rank : K → K → Ordering) (laws : Laws rank) (s : Sigh
   x_keyed = st.keyed (by is_keyed refl)
 
   x_not_high : x ≡ high → ⊥
-  x_not_high = keyed_not_high rank laws s inv me t is-task x t.key x_keyed
+  x_not_high = keyed_not_high rank laws s inv me t is_task x t.key x_keyed
 
   next_x : s.next x ≡ s.next b
   next_x = st.in_hand_next (by is_handing refl)
@@ -79,10 +79,10 @@ module _ {K : Type 0} (rank : K → K → Ordering) (laws : Laws rank) (s : Sigh
   next_b_chained = inv.leads b b_chained b_not_high
 
   lock_b : s.lock b ≡ Some me
-  lock_b = holds_own_at rank laws s inv me t is-task (by holds_at refl)
+  lock_b = holds_own_at rank laws s inv me t is_task (by holds_at refl)
 
   lock_x : s.lock x ≡ Some me
-  lock_x = holds_own_other rank laws s inv me t is-task (by holds_other refl)
+  lock_x = holds_own_other rank laws s inv me t is_task (by holds_other refl)
 
   chains : (p q r : ℕ) → below (s.spot p) (s.spot q) → below (s.spot q) (s.spot r) → below (s.spot p) (s.spot r)
   chains p q r = before_chains rank laws (s.spot p) (s.spot q) (s.spot r)
@@ -228,7 +228,7 @@ module _ {K : Type 0} (rank : K → K → Ordering) (laws : Laws rank) (s : Sigh
     own_task = at_with_same s.task me (Some u)
 
     elsewhere : (f : ℕ → Bool) (p : ℕ) → (x ≡ p → ⊥) → holder_in f task' (s.lock p) p ≡ holder_in f s.task (s.lock p) p
-    elsewhere f p d = lag_elsewhere rank laws s inv me t is-task f u refl p d
+    elsewhere f p d = lag_elsewhere rank laws s inv me t is_task f u refl p d
 
     at_x : (f : ℕ → Bool) → holder_in f task' (s.lock x) x ≡ f 6
     at_x f = ap (λ l. holder_in f task' l x) lock_x ∙ ap (λ y. other_in f y x) own_task ∙ ap (λ c. f 6 && c) (eq-eqb x x refl) ∙ and_true (f 6)
@@ -240,8 +240,8 @@ module _ {K : Type 0} (rank : K → K → Ordering) (laws : Laws rank) (s : Sigh
     backs' : (p : ℕ) → is_chained (status' p) ≡ true → (p ≡ high → ⊥) → s.prev (next' p) ≡ cond (holder_in is_lagging task' (s.lock p) p) (s.prev p) p
     backs' p c h = by_place p (λ q. s.prev (next' q) ≡ cond (holder_in is_lagging task' (s.lock q) q) (s.prev q) q)
         (ap s.prev next_at_b ∙ st.in_hand_prev (by is_handing refl)
-        ∙ ap (λ y. cond y (s.prev b) b) (sym (elsewhere is_lagging b x_not_b ∙ at_not_other rank laws s inv me t is-task is_lagging (by holds_at refl) x_not_b)))
-        (ap s.prev next_at_x ∙ inv.backs b b_chained b_not_high ∙ ap (λ y. cond y (s.prev b) b) (at_not_other rank laws s inv me t is-task is_lagging (by holds_at refl) x_not_b)
+        ∙ ap (λ y. cond y (s.prev b) b) (sym (elsewhere is_lagging b x_not_b ∙ at_not_other rank laws s inv me t is_task is_lagging (by holds_at refl) x_not_b)))
+        (ap s.prev next_at_x ∙ inv.backs b b_chained b_not_high ∙ ap (λ y. cond y (s.prev b) b) (at_not_other rank laws s inv me t is_task is_lagging (by holds_at refl) x_not_b)
         ∙ sym (ap (λ y. cond y (s.prev x) x) (at_x is_lagging) ∙ st.in_hand_prev (by is_handing refl)))
         (λ d d2. ap s.prev (next_else p d) ∙ inv.backs p (was p d2 c) h ∙ ap (λ y. cond y (s.prev p) p) (sym (elsewhere is_lagging p d2)))
 
@@ -274,7 +274,7 @@ module _ {K : Type 0} (rank : K → K → Ordering) (laws : Laws rank) (s : Sigh
 
         not_x : is_handing (rung v.phase) ≡ true → x ≡ v.other → ⊥
         not_x h same = d (inv.hands_apart me i x
-            (ap (λ y. other_in is_handing y x) is-task ∙ and_from _ _ (by is_handing refl) (eq-eqb x x refl))
+            (ap (λ y. other_in is_handing y x) is_task ∙ and_from _ _ (by is_handing refl) (eq-eqb x x refl))
             (ap (λ y. other_in is_handing y x) is ∙ and_from _ _ h (eq-eqb v.other x (sym same))))
 
         between_holds : (r : ℕ) → is_between r ≡ true → holds_at r ≡ true
@@ -316,7 +316,7 @@ module _ {K : Type 0} (rank : K → K → Ordering) (laws : Laws rank) (s : Sigh
       guide_size = inv.guide_size;
       low_spot = inv.low_spot;
       high_spot = inv.high_spot;
-      low_chained = status_else low (keyed_not_low rank laws s inv me t is-task x t.key x_keyed) ∙ inv.low_chained;
+      low_chained = status_else low (keyed_not_low rank laws s inv me t is_task x t.key x_keyed) ∙ inv.low_chained;
       high_chained = status_else high x_not_high ∙ inv.high_chained;
       low_unmarked = inv.low_unmarked;
       high_unmarked = inv.high_unmarked;
@@ -328,23 +328,23 @@ module _ {K : Type 0} (rank : K → K → Ordering) (laws : Laws rank) (s : Sigh
       backs = backs';
       locks = λ i p. inv.locks i p
           ∙ sym (at_with_both s.task me i (Some u) (λ y. holds y p ≡ holds (s.task i) p)
-          (λ k. holds_by rank laws s inv me t is-task Link e 6 refl refl p ∙ ap (λ y. holds y p) (sym is-task) ∙ ap (λ j. holds (s.task j) p) k) (λ _. refl));
+          (λ k. holds_by rank laws s inv me t is_task Link e 6 refl refl p ∙ ap (λ y. holds y p) (sym is_task) ∙ ap (λ j. holds (s.task j) p) k) (λ _. refl));
       fit = λ i w. at_with_both s.task me i (Some u) (λ y. y ≡ Some w → fits w.work (group w.phase) ≡ true)
-          (λ _ k. ap (λ y. fits y.work (group y.phase)) (sym (just u w k)) ∙ ap (λ y. fits t.work (group y)) (sym e) ∙ inv.fit me t is-task) (λ _. inv.fit i w);
+          (λ _ k. ap (λ y. fits y.work (group y.phase)) (sym (just u w k)) ∙ ap (λ y. fits t.work (group y)) (sym e) ∙ inv.fit me t is_task) (λ _. inv.fit i w);
       seen = λ i w. at_with_both s.task me i (Some u) (λ y. y ≡ Some w → (is_chained (status' w.at) || (s.marked w.at && waits_for i (status' w.at))) ≡ true)
-          (λ same k. seen' i w.at (subst (λ j. seen_by s j w.at ≡ true) same (ap (λ y. seen_by s me y.at) (sym (just u w k)) ∙ inv.seen me t is-task)))
+          (λ same k. seen' i w.at (subst (λ j. seen_by s j w.at ≡ true) same (ap (λ y. seen_by s me y.at) (sym (just u w k)) ∙ inv.seen me t is_task)))
           (λ _ k. seen' i w.at (inv.seen i w k));
       stands = λ i w. at_with_both s.task me i (Some u) (λ y. y ≡ Some w → Stands rank s.spot next' s.prev s.marked status' w)
           (λ _ k. subst (Stands rank s.spot next' s.prev s.marked status') (just u w k) own) (λ d k. others i w d k);
       marks = λ p c m. elim (cases_eq x p) [
         | inl same ↦ never (sym m ∙ ap s.marked (sym same) ∙ st.spared (by is_spared refl))
         | inr d ↦ let has = inv.marks p (was p d c) m in
-            (has.0, other_alike rank s inv me t is-task is_striking u (other_by rank laws s inv me t is-task is_striking Link e 6 refl) has.0 p ∙ has.1)
+            (has.0, other_alike rank s inv me t is_task is_striking u (other_by rank laws s inv me t is_task is_striking Link e 6 refl) has.0 p ∙ has.1)
       ];
       hands = λ p h. hand p (status_else p (not_chained p h)) h;
       hands_apart = λ i j p y z. inv.hands_apart i j p (hand_other i p y) (hand_other j p z);
       rests = λ p w r. inv.rests p w (sym (status_else p (not_retired p w r)) ∙ r);
-      awaits = λ p w r i h. awaited_with rank s inv me t is-task u refl i (inv.awaits p w (sym (status_else p (not_retired p w r)) ∙ r) i h);
+      awaits = λ p w r i h. awaited_with rank s inv me t is_task u refl i (inv.awaits p w (sym (status_else p (not_retired p w r)) ∙ r) i h);
       next_seen = λ p w r i h. let q = sym (status_else p (not_retired p w r)) ∙ r in
           ap (λ y. is_chained (status' y) || (s.marked y && waits_for i (status' y))) (next_else p (λ same. never (sym b_chained ∙ ap (chained s) same ∙ ap is_chained q)))
           ∙ seen' i (s.next p) (inv.next_seen p w q i h);
@@ -367,7 +367,7 @@ module _ {K : Type 0} (rank : K → K → Ordering) (laws : Laws rank) (s : Sigh
             let has = inv.hands p (sym same ∙ h) in (
               has.0,
               at_with_both s.task me has.0 (Some u) (λ y. other_in is_handing y p ≡ true)
-                  (λ mine. absurd (not_chained p h (mine_is p (ap (λ y. other_in is_handing y p) (sym is-task) ∙ ap (λ j. other_in is_handing (s.task j) p) mine ∙ has.1))))
+                  (λ mine. absurd (not_chained p h (mine_is p (ap (λ y. other_in is_handing y p) (sym is_task) ∙ ap (λ j. other_in is_handing (s.task j) p) mine ∙ has.1))))
                   (λ _. has.1),
             )
 
@@ -376,7 +376,7 @@ module _ {K : Type 0} (rank : K → K → Ordering) (laws : Laws rank) (s : Sigh
 
         old_detaching : holder_in is_detaching s.task (s.lock x) x ≡ false
         old_detaching =
-            ap (λ l. holder_in is_detaching s.task l x) lock_x ∙ ap (λ y. other_in is_detaching y x) is-task ∙ ap (λ y. is_detaching (rung y) && eqb x x) e
+            ap (λ l. holder_in is_detaching s.task l x) lock_x ∙ ap (λ y. other_in is_detaching y x) is_task ∙ ap (λ y. is_detaching (rung y) && eqb x x) e
 
         shows : (p : ℕ) → ((chained s p && not (holder_in is_hiding s.task (s.lock p) p)) || holder_in is_detaching s.task (s.lock p) p)
             ≡ ((is_chained (status' p) && not (holder_in is_hiding task' (s.lock p) p)) || holder_in is_detaching task' (s.lock p) p)

@@ -25,14 +25,14 @@ use Rattle.promises.proofs.Fills.{take_keeps}
 use Rattle.promises.proofs.Guiding.{keeps_detaches, keeps_attaches}
 use Rattle.promises.proofs.Quieting.{keeps_strike_ends}
 
-module _ {K : Type 0} (rank : K → K → Ordering) (laws : Laws rank) (s : Sight K) (inv : Inv rank s) (me : ℕ) (t : Task K) (is-task : s.task me ≡ Some t)
+module _ {K : Type 0} (rank : K → K → Ordering) (laws : Laws rank) (s : Sight K) (inv : Inv rank s) (me : ℕ) (t : Task K) (is_task : s.task me ≡ Some t)
     (stationed : (j : ℕ) → is_some (s.task j) ≡ true → j < most_stations) (o : Outcome K) (mid : Sight K) where
   goes_to : (u : Task K) → o ≡ Goes u → (m : Sight K) → mid ≡ m → ((n : ℕ) → Inv rank (task_put me (Some (with_steps n u)) m)) → Kept rank me t o mid
   goes_to u oc m se kept = Kept.goes u oc (λ n. subst (λ x. Inv rank (task_put me (Some (with_steps n u)) x)) (sym se) (kept n))
 
   -- The rules that hold a lock or take one.
   holding_keeps : is_walking t.phase ≡ false → Way rank s me t o mid → Kept rank me t o mid
-  holding_keeps h (Way.strays x0 x1 x2) = never_strays rank laws s inv me t is-task o mid t.work t.phase x0 (inv.fit me t is-task)
+  holding_keeps h (Way.strays x0 x1 x2) = never_strays rank laws s inv me t is_task o mid t.work t.phase x0 (inv.fit me t is_task)
   holding_keeps h (Way.enters x0 x1 x2 x3 x4) = never (sym (ap is_walking x0) ∙ h)
   holding_keeps h (Way.down_here x0 x1 x2 x3) = never (sym (ap is_walking x0) ∙ h)
   holding_keeps h (Way.down_lost x0 x1 x2 x3) = never (sym (ap is_walking x0) ∙ h)
@@ -58,28 +58,28 @@ module _ {K : Type 0} (rank : K → K → Ordering) (laws : Laws rank) (s : Sigh
   holding_keeps h (Way.on_after_found x0 x1 x2 x3 x4 x5 x6 x7) = never (sym (ap is_walking x0) ∙ h)
   holding_keeps h (Way.seek_next x0 x1 x2 x3 x4) = never (sym (ap is_walking x0) ∙ h)
   holding_keeps h (Way.seek_lock x0 x1 x2 x3 x4) = never (sym (ap is_walking x0) ∙ h)
-  holding_keeps h (Way.lock_waits x0 x1 x2 x3) = waiting rank laws s inv me t is-task o mid x3 x2
-  holding_keeps h (Way.lock_taken x0 x1 x2 x3 x4) = keeps_lock_taken rank laws s inv me t is-task o mid x0 x2 x3 x4
-  holding_keeps h (Way.valid_again x0 x1 x2 x3 x4) = keeps_valid_again rank laws s inv me t is-task o mid x0 x1 x3 x4
-  holding_keeps h (Way.valid_put_no x0 x1 x2 x3 x4 x5) = keeps_valid_no rank laws s inv me t is-task o mid x0 (subst Changes (sym x1) puts) _ x4 x5
-  holding_keeps h (Way.valid_take x0 x1 x2 x3 x4 x5) = keeps_valid_take rank laws s inv me t is-task o mid x0 x1 x2 x3 x4 x5
-  holding_keeps h (Way.valid_strike_no x0 x1 x2 x3 x4 x5) = keeps_valid_no rank laws s inv me t is-task o mid x0 (subst Changes (sym x1) strikes) _ x4 x5
-  holding_keeps h (Way.valid_victim x0 x1 x2 x3 x4 x5) = keeps_valid_victim rank laws s inv me t is-task o mid x0 x1 x2 x3 x4 x5
-  holding_keeps h (Way.take_none x0 x1 x2 x3) = keeps_take_none rank laws s inv me t is-task o mid x0 _ x2 x3
-  holding_keeps h (Way.take_some x0 x1 x2 x3 x4 x5 x6) = goes_to (into Link (with_other x1 t)) x5 _ x6 (take_keeps rank laws s inv me t is-task x0 x1 x2 x3 x4)
-  holding_keeps h (Way.links x0 x1 x2) = goes_to (into LinkBack t) x1 _ x2 (link_keeps rank laws s inv me t is-task x0)
-  holding_keeps h (Way.links_back x0 x1 x2 x3) = keeps_links_back rank laws s inv me t is-task o mid x0 x2 x3
-  holding_keeps h (Way.attaches x0 x1 x2 x3 x4 x5) = keeps_attaches rank laws s inv me t is-task o mid x0 x1 x4 x5
-  holding_keeps h (Way.releases_new x0 x1 x2) = keeps_releases_new rank laws s inv me t is-task o mid x0 x1 x2
-  holding_keeps h (Way.put_ends x0 x1 x2) = keeps_put_ends rank laws s inv me t is-task o mid x0 _ x1 x2
-  holding_keeps h (Way.victim_waits x0 x1 x2 x3) = waiting rank laws s inv me t is-task o mid x3 x2
-  holding_keeps h (Way.victim_taken x0 x1 x2 x3 x4) = keeps_victim_taken rank laws s inv me t is-task o mid x0 x2 x3 x4
-  holding_keeps h (Way.marks x0 x1 x2) = keeps_marks rank laws s inv me t is-task o mid x0 x1 x2
-  holding_keeps h (Way.unlinks_back x0 x1 x2 x3) = keeps_unlinks_back rank laws s inv me t is-task o mid x0 x2 x3
-  holding_keeps h (Way.unlinks x0 x1 x2) = goes_to (into Detach t) x1 _ x2 (unlink_keeps rank laws s inv me t is-task x0)
-  holding_keeps h (Way.detaches x0 x1 x2 x3 x4) = keeps_detaches rank laws s inv me t is-task o mid x0 x3 x4
-  holding_keeps h (Way.releases_victim x0 x1 x2) = keeps_releases_victim rank laws s inv me t is-task o mid x0 x1 x2
-  holding_keeps h (Way.strike_ends x0 x1 x2 x3) = keeps_strike_ends rank laws s inv me t is-task stationed o mid x0 x1 x2 x3
+  holding_keeps h (Way.lock_waits x0 x1 x2 x3) = waiting rank laws s inv me t is_task o mid x3 x2
+  holding_keeps h (Way.lock_taken x0 x1 x2 x3 x4) = keeps_lock_taken rank laws s inv me t is_task o mid x0 x2 x3 x4
+  holding_keeps h (Way.valid_again x0 x1 x2 x3 x4) = keeps_valid_again rank laws s inv me t is_task o mid x0 x1 x3 x4
+  holding_keeps h (Way.valid_put_no x0 x1 x2 x3 x4 x5) = keeps_valid_no rank laws s inv me t is_task o mid x0 (subst Changes (sym x1) puts) _ x4 x5
+  holding_keeps h (Way.valid_take x0 x1 x2 x3 x4 x5) = keeps_valid_take rank laws s inv me t is_task o mid x0 x1 x2 x3 x4 x5
+  holding_keeps h (Way.valid_strike_no x0 x1 x2 x3 x4 x5) = keeps_valid_no rank laws s inv me t is_task o mid x0 (subst Changes (sym x1) strikes) _ x4 x5
+  holding_keeps h (Way.valid_victim x0 x1 x2 x3 x4 x5) = keeps_valid_victim rank laws s inv me t is_task o mid x0 x1 x2 x3 x4 x5
+  holding_keeps h (Way.take_none x0 x1 x2 x3) = keeps_take_none rank laws s inv me t is_task o mid x0 _ x2 x3
+  holding_keeps h (Way.take_some x0 x1 x2 x3 x4 x5 x6) = goes_to (into Link (with_other x1 t)) x5 _ x6 (take_keeps rank laws s inv me t is_task x0 x1 x2 x3 x4)
+  holding_keeps h (Way.links x0 x1 x2) = goes_to (into LinkBack t) x1 _ x2 (link_keeps rank laws s inv me t is_task x0)
+  holding_keeps h (Way.links_back x0 x1 x2 x3) = keeps_links_back rank laws s inv me t is_task o mid x0 x2 x3
+  holding_keeps h (Way.attaches x0 x1 x2 x3 x4 x5) = keeps_attaches rank laws s inv me t is_task o mid x0 x1 x4 x5
+  holding_keeps h (Way.releases_new x0 x1 x2) = keeps_releases_new rank laws s inv me t is_task o mid x0 x1 x2
+  holding_keeps h (Way.put_ends x0 x1 x2) = keeps_put_ends rank laws s inv me t is_task o mid x0 _ x1 x2
+  holding_keeps h (Way.victim_waits x0 x1 x2 x3) = waiting rank laws s inv me t is_task o mid x3 x2
+  holding_keeps h (Way.victim_taken x0 x1 x2 x3 x4) = keeps_victim_taken rank laws s inv me t is_task o mid x0 x2 x3 x4
+  holding_keeps h (Way.marks x0 x1 x2) = keeps_marks rank laws s inv me t is_task o mid x0 x1 x2
+  holding_keeps h (Way.unlinks_back x0 x1 x2 x3) = keeps_unlinks_back rank laws s inv me t is_task o mid x0 x2 x3
+  holding_keeps h (Way.unlinks x0 x1 x2) = goes_to (into Detach t) x1 _ x2 (unlink_keeps rank laws s inv me t is_task x0)
+  holding_keeps h (Way.detaches x0 x1 x2 x3 x4) = keeps_detaches rank laws s inv me t is_task o mid x0 x3 x4
+  holding_keeps h (Way.releases_victim x0 x1 x2) = keeps_releases_victim rank laws s inv me t is_task o mid x0 x1 x2
+  holding_keeps h (Way.strike_ends x0 x1 x2 x3) = keeps_strike_ends rank laws s inv me t is_task stationed o mid x0 x1 x2 x3
   holding_keeps h (Way.first_missing x0 x1 x2 x3) = never (sym (ap is_walking x0) ∙ h)
   holding_keeps h (Way.first_on_next x0 x1 x2 x3) = never (sym (ap is_walking x0) ∙ h)
   holding_keeps h (Way.first_marked x0 x1 x2 x3) = never (sym (ap is_walking x0) ∙ h)
@@ -89,7 +89,7 @@ module _ {K : Type 0} (rank : K → K → Ordering) (laws : Laws rank) (s : Sigh
   way_keeps w = go (is_walking t.phase) refl
     where
       go : (b : Bool) → is_walking t.phase ≡ b → Kept rank me t o mid
-      go true h = walking_keeps rank laws s inv me t is-task o mid h w
+      go true h = walking_keeps rank laws s inv me t is_task o mid h w
       go false h = holding_keeps h w
 
 -- What was kept over the rule is kept once the stations are settled.

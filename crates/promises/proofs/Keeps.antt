@@ -25,7 +25,7 @@ at_same f p a q e = cond-true (eqb p q) a (f q) (eq-eqb p q e)
 
 -- Two numbers at which a test differs are two.
 pub apart_by : (f : ℕ → Bool) (p q : ℕ) → f p ≡ true → f q ≡ false → p ≡ q → ⊥
-apart_by f p q yes-p no-q e = true≢false (sym yes-p ∙ ap f e ∙ no-q)
+apart_by f p q yes_p no_q e = true≢false (sym yes_p ∙ ap f e ∙ no_q)
 
 pub waiting_is_off : (i : ℕ) (x : Status) → waits_for i x ≡ true → is_chained x ≡ false
 waiting_is_off i Free h = refl

@@ -58,12 +58,12 @@ module _ {K : Type 0} (rank : K → K → Ordering) (laws : Laws rank) (s : Sigh
       go (inr (inl h)) = absurd (beyond p q c d hq e h)
       go (inr (inr h)) = absurd (beyond q p d c hp (sym e) h)
 
-  module _ (me : ℕ) (t : Task K) (is-task : s.task me ≡ Some t) where
+  module _ (me : ℕ) (t : Task K) (is_task : s.task me ≡ Some t) where
     st : Stands rank s.spot s.next s.prev s.marked s.status t
-    st = inv.stands me t is-task
+    st = inv.stands me t is_task
 
     fit_here : (ph : Phase) → t.phase ≡ ph → fits t.work (group ph) ≡ true
-    fit_here ph e = subst (λ x. fits t.work (group x) ≡ true) e (inv.fit me t is-task)
+    fit_here ph e = subst (λ x. fits t.work (group x) ≡ true) e (inv.fit me t is_task)
 
     below_here : (ph : Phase) → t.phase ≡ ph → leb 3 (group ph) ≡ true → before rank (s.spot t.at) (exact t.key) ≡ true
     below_here ph e h = st.at_below (ap (λ x. leb 3 (group x)) e ∙ h)
@@ -73,7 +73,7 @@ module _ {K : Type 0} (rank : K → K → Ordering) (laws : Laws rank) (s : Sigh
     held_here q ph e = ap (λ x. (holds_at (rung x) && eqb t.at q) || (holds_other (rung x) && eqb t.other q)) e
 
     at_seen : seen_by s me t.at ≡ true
-    at_seen = inv.seen me t is-task
+    at_seen = inv.seen me t is_task
 
     -- What stands on the chain where it is not marked.
     pub unmarked_chained : s.marked t.at ≡ false → chained s t.at ≡ true
@@ -93,11 +93,11 @@ module _ {K : Type 0} (rank : K → K → Ordering) (laws : Laws rank) (s : Sigh
         → is_lagging (rung ph) ≡ false → is_hiding (rung ph) ≡ false → is_detaching (rung ph) ≡ false → is_striking (rung ph) ≡ false → is_handing (rung ph) ≡ false
         → fits t.work 0 ≡ true → (n : ℕ) → Inv rank (task_put me (Some (with_steps n (into Enter t))) (lock_put t.at None s))
     released_to_enter ph e at_held no_other a b c d h fit n =
-        lock_is_released rank s inv me t is-task (with_steps n (into Enter t)) t.at None (again n fit) refl
+        lock_is_released rank s inv me t is_task (with_steps n (into Enter t)) t.at None (again n fit) refl
         (ap (λ x. is_lagging (rung x)) e ∙ a, ap (λ x. is_hiding (rung x)) e ∙ b, ap (λ x. is_detaching (rung x)) e ∙ c) (refl, refl, refl)
-        (both_fail rank s inv me t is-task is_striking (with_steps n (into Enter t)) (ap (λ x. is_striking (rung x)) e ∙ d) refl)
-        (both_fail rank s inv me t is-task is_handing (with_steps n (into Enter t)) (ap (λ x. is_handing (rung x)) e ∙ h) refl)
-        (holds_own_at rank laws s inv me t is-task (ap (λ x. holds_at (rung x)) e ∙ at_held)) refl
+        (both_fail rank s inv me t is_task is_striking (with_steps n (into Enter t)) (ap (λ x. is_striking (rung x)) e ∙ d) refl)
+        (both_fail rank s inv me t is_task is_handing (with_steps n (into Enter t)) (ap (λ x. is_handing (rung x)) e ∙ h) refl)
+        (holds_own_at rank laws s inv me t is_task (ap (λ x. holds_at (rung x)) e ∙ at_held)) refl
         (λ q. or_but_not (eqb t.at q)
         ∙ sym (ap (λ x. x && not (eqb t.at q)) (held_here q ph e ∙ ap (λ x. (x && eqb t.at q) || (holds_other (rung ph) && eqb t.other q)) at_held ∙ ap (λ x. eqb t.at q || (x && eqb t.other q)) no_other)))
 
@@ -120,11 +120,11 @@ module _ {K : Type 0} (rank : K → K → Ordering) (laws : Laws rank) (s : Sigh
       pub keeps_lock_taken : t.phase ≡ Lock → held_by_other me (s.lock t.at) ≡ false → o ≡ Goes (into Valid t) → mid ≡ lock_put t.at (Some me) s → It
       keeps_lock_taken e held oc se =
           Kept.goes (into Valid t) oc (λ n. subst (λ x. Inv rank (task_put me (Some (with_steps n (into Valid t))) x)) (sym se)
-          (lock_is_taken rank s inv me t is-task (with_steps n (into Valid t)) t.at (Some me) (sound n) refl
+          (lock_is_taken rank s inv me t is_task (with_steps n (into Valid t)) t.at (Some me) (sound n) refl
           (ap (λ x. is_lagging (rung x)) e, ap (λ x. is_hiding (rung x)) e, ap (λ x. is_detaching (rung x)) e) (refl, refl, refl)
-          (both_fail rank s inv me t is-task is_striking (with_steps n (into Valid t)) (ap (λ x. is_striking (rung x)) e) refl)
-          (both_fail rank s inv me t is-task is_handing (with_steps n (into Valid t)) (ap (λ x. is_handing (rung x)) e) refl)
-          (free_lock me (s.lock t.at) held (inv.locks me t.at ∙ ap (λ x. holds x t.at) is-task ∙ held_here t.at Lock e)) refl
+          (both_fail rank s inv me t is_task is_striking (with_steps n (into Valid t)) (ap (λ x. is_striking (rung x)) e) refl)
+          (both_fail rank s inv me t is_task is_handing (with_steps n (into Valid t)) (ap (λ x. is_handing (rung x)) e) refl)
+          (free_lock me (s.lock t.at) held (inv.locks me t.at ∙ ap (λ x. holds x t.at) is_task ∙ held_here t.at Lock e)) refl
           (λ q. or_false (eqb t.at q) ∙ sym (ap (λ x. x || eqb t.at q) (held_here q Lock e)))))
         where
           sound : (n : ℕ) → Sound rank s me (with_steps n (into Valid t))
@@ -192,19 +192,19 @@ module _ {K : Type 0} (rank : K → K → Ordering) (laws : Laws rank) (s : Sigh
           → ((n : ℕ) → Sound rank s me (with_steps n u)) → It
       goes_on u e same aw oc se a b c d f g h sound =
           Kept.goes u oc (λ n. subst (λ x. Inv rank (task_put me (Some (with_steps n u)) x)) (sym se)
-          (retask rank s me (Some (with_steps n u)) inv (subst (λ x. Like x (Some (with_steps n u))) (sym is-task) (like n))
-          (awaited_still rank laws s inv me t is-task (with_steps n u) aw)
+          (retask rank s me (Some (with_steps n u)) inv (subst (λ x. Like x (Some (with_steps n u))) (sym is_task) (like n))
+          (awaited_still rank laws s inv me t is_task (with_steps n u) aw)
           (λ v i. subst (Sound rank s me) (just (with_steps n u) v i) (sound n))))
         where
           like : (n : ℕ) → Like (Some t) (Some (with_steps n u))
           like n = record {
             holding = λ p. ap (λ x. (x && eqb u.at p) || (holds_other (rung u.phase) && eqb u.other p)) a ∙ ap (λ x. eqb u.at p || (x && eqb u.other p)) b
                 ∙ ap (λ q. eqb q p || false) same ∙ sym (held_here p Valid e);
-            lagging = both_fail rank s inv me t is-task is_lagging (with_steps n u) (ap (λ x. is_lagging (rung x)) e) c;
-            hiding = both_fail rank s inv me t is-task is_hiding (with_steps n u) (ap (λ x. is_hiding (rung x)) e) d;
-            detaching = both_fail rank s inv me t is-task is_detaching (with_steps n u) (ap (λ x. is_detaching (rung x)) e) f;
-            striking = both_fail rank s inv me t is-task is_striking (with_steps n u) (ap (λ x. is_striking (rung x)) e) g;
-            handing = both_fail rank s inv me t is-task is_handing (with_steps n u) (ap (λ x. is_handing (rung x)) e) h;
+            lagging = both_fail rank s inv me t is_task is_lagging (with_steps n u) (ap (λ x. is_lagging (rung x)) e) c;
+            hiding = both_fail rank s inv me t is_task is_hiding (with_steps n u) (ap (λ x. is_hiding (rung x)) e) d;
+            detaching = both_fail rank s inv me t is_task is_detaching (with_steps n u) (ap (λ x. is_detaching (rung x)) e) f;
+            striking = both_fail rank s inv me t is_task is_striking (with_steps n u) (ap (λ x. is_striking (rung x)) e) g;
+            handing = both_fail rank s inv me t is_task is_handing (with_steps n u) (ap (λ x. is_handing (rung x)) e) h;
           }
 
       pub keeps_valid_take : t.phase ≡ Valid → t.work ≡ Put → s.marked t.at ≡ false → compared rank (s.spot (s.next t.at)) t.key ≡ Greater

@@ -29,12 +29,12 @@ or_more true m m' w up h = refl
 or_more false true m' w up h = and_from m' w (up refl) h
 or_more false false m' w up h = never (sym h)
 
-module _ {K : Type 0} (rank : K → K → Ordering) (laws : Laws rank) (s : Sight K) (inv : Inv rank s) (me : ℕ) (t : Task K) (is-task : s.task me ≡ Some t) where
+module _ {K : Type 0} (rank : K → K → Ordering) (laws : Laws rank) (s : Sight K) (inv : Inv rank s) (me : ℕ) (t : Task K) (is_task : s.task me ≡ Some t) where
   st : Stands rank s.spot s.next s.prev s.marked s.status t
-  st = inv.stands me t is-task
+  st = inv.stands me t is_task
 
   fit_here : (ph : Phase) → t.phase ≡ ph → fits t.work (group ph) ≡ true
-  fit_here ph e = subst (λ x. fits t.work (group x) ≡ true) e (inv.fit me t is-task)
+  fit_here ph e = subst (λ x. fits t.work (group x) ≡ true) e (inv.fit me t is_task)
 
   -- A test of the rung has one value before and after.
   pub other_by : (f : ℕ → Bool) (ph : Phase) → t.phase ≡ ph → (r : ℕ) → f r ≡ f (rung ph) → (p : ℕ) → (f r && eqb t.other p) ≡ other_in f (Some t) p
@@ -53,7 +53,7 @@ module _ {K : Type 0} (rank : K → K → Ordering) (laws : Laws rank) (s : Sigh
     pub keeps_links_back : t.phase ≡ LinkBack → o ≡ Goes (into Attach t) → mid ≡ prev_put (s.next t.other) t.other s → It
     keeps_links_back e oc se =
         Kept.goes (into Attach t) oc (λ n. subst (λ x. Inv rank (task_put me (Some (with_steps n (into Attach t))) x)) (sym se)
-        (prev_write_keeps rank laws s inv me t is-task (by is_joined refl) (by is_keyed refl) (with_steps n (into Attach t)) t.other refl refl refl (sound n) refl
+        (prev_write_keeps rank laws s inv me t is_task (by is_joined refl) (by is_keyed refl) (with_steps n (into Attach t)) t.other refl refl refl (sound n) refl
         (holds_by LinkBack e 7 refl refl) (other_by is_hiding LinkBack e 7 refl) (other_by is_detaching LinkBack e 7 refl) (other_by is_striking LinkBack e 7 refl)
         (other_by is_handing LinkBack e 7 refl) (by holds_other refl) refl))
       where
@@ -63,7 +63,7 @@ module _ {K : Type 0} (rank : K → K → Ordering) (laws : Laws rank) (s : Sigh
         sound : (n : ℕ) → Sound rank s me (with_steps n (into Attach t))
         sound n = record {
           fit = fit_here LinkBack e;
-          seen = inv.seen me t is-task;
+          seen = inv.seen me t is_task;
           stands = record {
             at_chained = λ _. st.at_chained (by is_placed refl);
             at_unmarked = λ _. st.at_unmarked (by is_placed refl);
@@ -83,7 +83,7 @@ module _ {K : Type 0} (rank : K → K → Ordering) (laws : Laws rank) (s : Sigh
     pub keeps_unlinks_back : t.phase ≡ UnlinkBack → o ≡ Goes (into Unlink t) → mid ≡ prev_put (s.next t.other) t.at s → It
     keeps_unlinks_back e oc se =
         Kept.goes (into Unlink t) oc (λ n. subst (λ x. Inv rank (task_put me (Some (with_steps n (into Unlink t))) x)) (sym se)
-        (prev_write_keeps rank laws s inv me t is-task (by is_joined refl) (by is_keyed refl) (with_steps n (into Unlink t)) t.at refl refl refl (sound n) refl
+        (prev_write_keeps rank laws s inv me t is_task (by is_joined refl) (by is_keyed refl) (with_steps n (into Unlink t)) t.at refl refl refl (sound n) refl
         (holds_by UnlinkBack e 11 refl refl) (other_by is_hiding UnlinkBack e 11 refl) (other_by is_detaching UnlinkBack e 11 refl) (other_by is_striking UnlinkBack e 11 refl)
         (other_by is_handing UnlinkBack e 11 refl) (by holds_other refl) refl))
       where
@@ -93,7 +93,7 @@ module _ {K : Type 0} (rank : K → K → Ordering) (laws : Laws rank) (s : Sigh
         sound : (n : ℕ) → Sound rank s me (with_steps n (into Unlink t))
         sound n = record {
           fit = fit_here UnlinkBack e;
-          seen = inv.seen me t is-task;
+          seen = inv.seen me t is_task;
           stands = record {
             at_chained = λ _. st.at_chained (by is_placed refl);
             at_unmarked = λ _. st.at_unmarked (by is_placed refl);
@@ -129,7 +129,7 @@ module _ {K : Type 0} (rank : K → K → Ordering) (laws : Laws rank) (s : Sigh
         seen_up i p h = or_more (chained s p) (s.marked p) _ (waits_for i (s.status p)) (up p) h
 
         lock_x : s.lock t.other ≡ Some me
-        lock_x = holds_own_other rank laws s inv me t is-task (by holds_other refl)
+        lock_x = holds_own_other rank laws s inv me t is_task (by holds_other refl)
 
         placed_holds : (r : ℕ) → is_placed r ≡ true → holds_at r ≡ true
         placed_holds r h = grind (arith, nat_tests)
@@ -159,7 +159,7 @@ module _ {K : Type 0} (rank : K → K → Ordering) (laws : Laws rank) (s : Sigh
         own : (n : ℕ) → Stands rank s.spot s.next s.prev (at_with s.marked t.other true) s.status (with_steps n (into UnlinkBack t))
         own n = record {
           at_chained = λ _. st.at_chained (by is_placed refl);
-          at_unmarked = λ _. elsewhere t.at (joined_differ rank laws s inv me t is-task (by is_joined refl)) ∙ st.at_unmarked (by is_placed refl);
+          at_unmarked = λ _. elsewhere t.at (joined_differ rank laws s inv me t is_task (by is_joined refl)) ∙ st.at_unmarked (by is_placed refl);
           at_below = λ _. st.at_below (ap (λ x. leb 3 (group x)) e);
           next_above = λ h. never (sym h);
           next_keyed = λ h. never (sym h);
@@ -181,8 +181,8 @@ module _ {K : Type 0} (rank : K → K → Ordering) (laws : Laws rank) (s : Sigh
           high_spot = inv.high_spot;
           low_chained = inv.low_chained;
           high_chained = inv.high_chained;
-          low_unmarked = elsewhere low (keyed_not_low rank laws s inv me t is-task t.other t.key (st.keyed (by is_keyed refl))) ∙ inv.low_unmarked;
-          high_unmarked = elsewhere high (keyed_not_high rank laws s inv me t is-task t.other t.key (st.keyed (by is_keyed refl))) ∙ inv.high_unmarked;
+          low_unmarked = elsewhere low (keyed_not_low rank laws s inv me t is_task t.other t.key (st.keyed (by is_keyed refl))) ∙ inv.low_unmarked;
+          high_unmarked = elsewhere high (keyed_not_high rank laws s inv me t is_task t.other t.key (st.keyed (by is_keyed refl))) ∙ inv.high_unmarked;
           leads = inv.leads;
           rises = inv.rises;
           gap = inv.gap;
@@ -190,11 +190,11 @@ module _ {K : Type 0} (rank : K → K → Ordering) (laws : Laws rank) (s : Sigh
           follows = inv.follows;
           backs = λ p c h. inv.backs p c h ∙ ap (λ x. cond x (s.prev p) p) (sym (alike is_lagging (other_by is_lagging Mark e 10 refl) (s.lock p) p));
           locks = λ i p. inv.locks i p
-              ∙ sym (at_with_both s.task me i (Some v) (λ y. holds y p ≡ holds (s.task i) p) (λ x. holds_by Mark e 10 refl refl p ∙ ap (λ y. holds y p) (sym is-task) ∙ ap (λ j. holds (s.task j) p) x) (λ _. refl));
+              ∙ sym (at_with_both s.task me i (Some v) (λ y. holds y p ≡ holds (s.task i) p) (λ x. holds_by Mark e 10 refl refl p ∙ ap (λ y. holds y p) (sym is_task) ∙ ap (λ j. holds (s.task j) p) x) (λ _. refl));
           fit = λ i w. at_with_both s.task me i (Some v) (λ x. x ≡ Some w → fits w.work (group w.phase) ≡ true)
               (λ _ x. ap (λ y. fits y.work (group y.phase)) (sym (just v w x)) ∙ fit_here Mark e) (λ _. inv.fit i w);
           seen = λ i w. at_with_both s.task me i (Some v) (λ x. x ≡ Some w → (chained s w.at || (at_with s.marked t.other true w.at && waits_for i (s.status w.at))) ≡ true)
-              (λ same x. seen_up i w.at (subst (λ j. seen_by s j w.at ≡ true) same (ap (λ y. seen_by s me y.at) (sym (just v w x)) ∙ inv.seen me t is-task)))
+              (λ same x. seen_up i w.at (subst (λ j. seen_by s j w.at ≡ true) same (ap (λ y. seen_by s me y.at) (sym (just v w x)) ∙ inv.seen me t is_task)))
               (λ _ x. seen_up i w.at (inv.seen i w x));
           stands = λ i w. at_with_both s.task me i (Some v) (λ x. x ≡ Some w → Stands rank s.spot s.next s.prev (at_with s.marked t.other true) s.status w)
               (λ _ x. subst (Stands rank s.spot s.next s.prev (at_with s.marked t.other true) s.status) (just v w x) (own n)) (λ d x. others i w d x);
@@ -202,11 +202,11 @@ module _ {K : Type 0} (rank : K → K → Ordering) (laws : Laws rank) (s : Sigh
             | inl x ↦ (me, ap (λ y. other_in is_striking y p) (at_with_same s.task me (Some v)) ∙ eq-eqb t.other p x)
             | inr d ↦ striker p (inv.marks p c (sym (elsewhere p d) ∙ m))
           ];
-          hands = λ p h. let has = inv.hands p h in (has.0, other_alike rank s inv me t is-task is_handing v (other_by is_handing Mark e 10 refl) has.0 p ∙ has.1);
-          hands_apart = λ i j p y z. inv.hands_apart i j p (sym (other_alike rank s inv me t is-task is_handing v (other_by is_handing Mark e 10 refl) i p) ∙ y)
-              (sym (other_alike rank s inv me t is-task is_handing v (other_by is_handing Mark e 10 refl) j p) ∙ z);
+          hands = λ p h. let has = inv.hands p h in (has.0, other_alike rank s inv me t is_task is_handing v (other_by is_handing Mark e 10 refl) has.0 p ∙ has.1);
+          hands_apart = λ i j p y z. inv.hands_apart i j p (sym (other_alike rank s inv me t is_task is_handing v (other_by is_handing Mark e 10 refl) i p) ∙ y)
+              (sym (other_alike rank s inv me t is_task is_handing v (other_by is_handing Mark e 10 refl) j p) ∙ z);
           rests = λ p w r. let was = inv.rests p w r in (up p was.0, was.1);
-          awaits = λ p w r i h. awaited_with rank s inv me t is-task v refl i (inv.awaits p w r i h);
+          awaits = λ p w r i h. awaited_with rank s inv me t is_task v refl i (inv.awaits p w r i h);
           next_seen = λ p w r i h. seen_up i (s.next p) (inv.next_seen p w r i h);
           prev_seen = λ p w r i h. seen_up i (s.prev p) (inv.prev_seen p w r i h);
           guide_rises = inv.guide_rises;
@@ -219,12 +219,12 @@ module _ {K : Type 0} (rank : K → K → Ordering) (laws : Laws rank) (s : Sigh
             v = with_steps n (into UnlinkBack t)
 
             alike : (f : ℕ → Bool) → ((p : ℕ) → other_in f (Some v) p ≡ other_in f (Some t) p) → (l : Option ℕ) (p : ℕ) → holder_in f (at_with s.task me (Some v)) l p ≡ holder_in f s.task l p
-            alike f same l p = holder_same s.task me (Some v) f (λ q. same q ∙ ap (λ y. other_in f y q) (sym is-task)) l p
+            alike f same l p = holder_same s.task me (Some v) f (λ q. same q ∙ ap (λ y. other_in f y q) (sym is_task)) l p
 
             striker : (p : ℕ) → (i : ℕ) × (other_in is_striking (s.task i) p ≡ true) → (i : ℕ) × (other_in is_striking (at_with s.task me (Some v) i) p ≡ true)
             striker p has = (
               has.0,
               at_with_both s.task me has.0 (Some v) (λ x. other_in is_striking x p ≡ true)
-                  (λ same. never (sym has.1 ∙ ap (λ j. other_in is_striking (s.task j) p) (sym same) ∙ ap (λ x. other_in is_striking x p) is-task ∙ ap (λ x. is_striking (rung x) && eqb t.other p) e))
+                  (λ same. never (sym has.1 ∙ ap (λ j. other_in is_striking (s.task j) p) (sym same) ∙ ap (λ x. other_in is_striking x p) is_task ∙ ap (λ x. is_striking (rung x) && eqb t.other p) e))
                   (λ _. has.1),
             )

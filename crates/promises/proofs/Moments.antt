@@ -111,8 +111,8 @@ module _ {K : Type 0} (rank : K → K → Ordering) (laws : Laws rank) where
     -- The successor of a place that is not above k.
     pub smallest_above : (p q : ℕ) (k a : K) → chained (sight_of b) p ≡ true → before rank (exact k) ((sight_of b).spot p) ≡ false → (sight_of b).next p ≡ q
         → chained (sight_of b) q ≡ true → (sight_of b).marked q ≡ false → (sight_of b).spot q ≡ exact a → before rank (exact k) ((sight_of b).spot q) ≡ true → SmallestAbove rank k a (keys b)
-    smallest_above p q k a on low e on-q unmarked is above = record {
-      among = shows.held q a on-q unmarked is;
+    smallest_above p q k a on low e on_q unmarked is above = record {
+      among = shows.held q a on_q unmarked is;
       above = less_of (rank k a) (ap (before rank (exact k)) (sym is) ∙ above);
       least = λ j h kj ja. absent_next p j on (low_under ((sight_of b).spot p) k j low (ap is_lt kj)) (ap (before rank (exact j)) (ap (sight_of b).spot e ∙ is) ∙ ap is_lt ja) h;
     }
@@ -125,8 +125,8 @@ module _ {K : Type 0} (rank : K → K → Ordering) (laws : Laws rank) where
     -- The successor of Low.
     pub smallest_of : (p q : ℕ) (a : K) → chained (sight_of b) p ≡ true → (sight_of b).spot p ≡ bottom → (sight_of b).next p ≡ q
         → chained (sight_of b) q ≡ true → (sight_of b).marked q ≡ false → (sight_of b).spot q ≡ exact a → Smallest rank a (keys b)
-    smallest_of p q a on low e on-q unmarked is = record {
-      among = shows.held q a on-q unmarked is;
+    smallest_of p q a on low e on_q unmarked is = record {
+      among = shows.held q a on_q unmarked is;
       least = λ j h ja. absent_next p j on (ap (λ x. before rank x (exact j)) low) (ap (before rank (exact j)) (ap (sight_of b).spot e ∙ is) ∙ ap is_lt ja) h;
     }
 

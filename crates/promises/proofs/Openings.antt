@@ -92,7 +92,7 @@ module _ {K : Type 0} where
         (λ h. let z : ◌≡◌ {A = ℕ} 0 1 = cc in omega arith) (λ h. let z : ◌≡◌ {A = ℕ} 0 1 = cc in omega arith)
 
     by_ends : (p : ℕ) (P : ℕ → Type 0) → chained fresh p ≡ true → P 0 → P 1 → P p
-    by_ends p P c at-0 at_1 = elim (ends p c) [ inl e ↦ subst P (sym e) at-0 | inr e ↦ subst P (sym e) at_1 ]
+    by_ends p P c at_0 at_1 = elim (ends p c) [ inl e ↦ subst P (sym e) at_0 | inr e ↦ subst P (sym e) at_1 ]
 
     none_in : (f : ℕ → Bool) (i p : ℕ) → other_in f (fresh.task i) p ≡ false
     none_in f i p = ap (λ a. other_in f a p) (idle_all i)

@@ -197,7 +197,7 @@ look_changes_not w Changes.puts e = let z : ◌≡◌ {A = ℕ} 0 1 = cc in omeg
 look_changes_not w Changes.strikes e = let z : ◌≡◌ {A = ℕ} 0 1 = cc in omega arith
 
 module _ {K : Type 0} (rank : K → K → Ordering) (laws : Laws rank) (i : ℕ) (b : Book K) (bs : List (Book K)) (here : Among b bs)
-    (inv-of : (σ : Book K) → Among σ bs → Inv rank (sight_of σ))
+    (inv_of : (σ : Book K) → Among σ bs → Inv rank (sight_of σ))
     (hind : (σ : Book K) → Among σ bs → (p : ℕ) → chained (sight_of σ) p ≡ true → Remembers i b bs σ p)
     (prevs : (σ : Book K) → Among σ bs → (p : ℕ) → chained (sight_of σ) p ≡ true → (p ≡ low → ⊥) → chained (sight_of σ) ((sight_of σ).prev p) ≡ true)
     (falls : (σ : Book K) → Among σ bs → (p : ℕ) → chained (sight_of σ) p ≡ true → (p ≡ low → ⊥) → before rank ((sight_of σ).spot ((sight_of σ).prev p)) ((sight_of σ).spot p) ≡ true) where
@@ -208,22 +208,22 @@ module _ {K : Type 0} (rank : K → K → Ordering) (laws : Laws rank) (i : ℕ)
       by_status h = omega arith
 
       by_fate : (chained (sight_of b) p ≡ true) ⊎ Struck i b bs p → p < (sight_of b).size
-      by_fate (inl on) = by_status (λ h. true≢false (sym on ∙ ap is_chained ((inv-of b here).beyond p h)))
-      by_fate (inr x) = by_status (λ h. true≢false (sym x.off.waits ∙ ap (waits_for i) ((inv-of b here).beyond p h)))
+      by_fate (inl on) = by_status (λ h. true≢false (sym on ∙ ap is_chained ((inv_of b here).beyond p h)))
+      by_fate (inr x) = by_status (λ h. true≢false (sym x.off.waits ∙ ap (waits_for i) ((inv_of b here).beyond p h)))
 
   prev_falls : (p : ℕ) → Known bs p → (p ≡ low → ⊥) → before rank ((sight_of b).spot ((sight_of b).prev p)) ((sight_of b).spot p) ≡ true
   prev_falls p m h =
-      let at = moment rank laws i b bs here inv-of hind prevs p m in
+      let at = moment rank laws i b bs here inv_of hind prevs p m in
       let back = prevs at.book at.among p at.on h in
-      let Spot-back = ap (sight_of b).spot at.prev ∙ (hind at.book at.among ((sight_of at.book).prev p) back).spot in
-      ap (λ x. before rank x ((sight_of b).spot p)) Spot-back ∙ ap (before rank ((sight_of at.book).spot ((sight_of at.book).prev p))) at.spot ∙ falls at.book at.among p at.on h
+      let spot_back = ap (sight_of b).spot at.prev ∙ (hind at.book at.among ((sight_of at.book).prev p) back).spot in
+      ap (λ x. before rank x ((sight_of b).spot p)) spot_back ∙ ap (before rank ((sight_of at.book).spot ((sight_of at.book).prev p))) at.spot ∙ falls at.book at.among p at.on h
 
   next_rises : (p : ℕ) → Known bs p → (p ≡ high → ⊥) → before rank ((sight_of b).spot p) ((sight_of b).spot ((sight_of b).next p)) ≡ true
   next_rises p m h =
-      let at = moment rank laws i b bs here inv-of hind prevs p m in
-      let inv = inv-of at.book at.among in
-      let Spot-on = ap (sight_of b).spot at.next ∙ (hind at.book at.among ((sight_of at.book).next p) (inv.leads p at.on h)).spot in
-      ap (before rank ((sight_of b).spot p)) Spot-on ∙ ap (λ x. before rank x ((sight_of at.book).spot ((sight_of at.book).next p))) at.spot ∙ inv.rises p at.on h
+      let at = moment rank laws i b bs here inv_of hind prevs p m in
+      let inv = inv_of at.book at.among in
+      let spot_on = ap (sight_of b).spot at.next ∙ (hind at.book at.among ((sight_of at.book).next p) (inv.leads p at.on h)).spot in
+      ap (before rank ((sight_of b).spot p)) spot_on ∙ ap (λ x. before rank x ((sight_of at.book).spot ((sight_of at.book).next p))) at.spot ∙ inv.rises p at.on h
 
   module _ (t : Task K) (looks : t.work ≡ Look) (fit : fits t.work (group t.phase) ≡ true) (g : ℕ)
       (known_back : t.phase ≡ Back → Known bs t.at) (known_on : t.phase ≡ On → Known bs t.at) (paced : Paced rank bs (sight_of b) t.phase t.downs t.at g) where
@@ -264,11 +264,11 @@ module _ {K : Type 0} (rank : K → K → Ordering) (laws : Laws rank) (i : ℕ)
     begins_back e p = let w : g ≤ 65 = in_phase Check e in ([], trail_none rank true (sight_of b) bs p, (omega arith))
 
     not_low : {o : Ordering} → compared rank ((sight_of b).spot t.at) t.key ≡ o → (o ≡ Less → ⊥) → t.at ≡ low → ⊥
-    not_low is h e = h (sym is ∙ ap (λ q. compared rank ((sight_of b).spot q) t.key) e ∙ ap (λ x. compared rank x t.key) (inv-of b here).low_spot)
+    not_low is h e = h (sym is ∙ ap (λ q. compared rank ((sight_of b).spot q) t.key) e ∙ ap (λ x. compared rank x t.key) (inv_of b here).low_spot)
 
     not_high : compared rank ((sight_of b).spot t.at) t.key ≡ Less → t.at ≡ high → ⊥
     not_high is e =
-        let clash : ◌≡◌ {A = Ordering} Less Greater = sym is ∙ ap (λ q. compared rank ((sight_of b).spot q) t.key) e ∙ ap (λ x. compared rank x t.key) (inv-of b here).high_spot in
+        let clash : ◌≡◌ {A = Ordering} Less Greater = sym is ∙ ap (λ q. compared rank ((sight_of b).spot q) t.key) e ∙ ap (λ x. compared rank x t.key) (inv_of b here).high_spot in
         let z : ◌≡◌ {A = ℕ} 0 1 = cc in omega arith
 
     equal_less : ◌≡◌ {A = Ordering} Equal Less → ⊥

@@ -61,12 +61,12 @@ module _ {K : Type 0} (rank : K → K → Ordering) (laws : Laws rank) (s : Sigh
       let at_on = work.at_chained facts.0 in
       let at_up = not_top t.at t.key (work.at_below facts.4) in
       let joined : s.next t.at ≡ q = work.joined facts.1 ∙ same in
-      let lock-of-at : s.lock t.at ≡ Some j =
+      let lock_of_at : s.lock t.at ≡ Some j =
       locked_is j (s.lock t.at) (inv.locks j t.at ∙ ap (λ x. holds x t.at) is ∙ or_left (holds_at (rung t.phase) && eqb t.at t.at) _ (and_from (holds_at (rung t.phase)) (eqb t.at t.at) facts.3 (eq-eqb t.at t.at refl))) in
-      let prev-of-q : s.prev q ≡ t.at = prev_back t is facts lock-of-at (sym (ap s.prev joined) ∙ inv.backs t.at at_on at_up) in
+      let prev_of_q : s.prev q ≡ t.at = prev_back t is facts lock_of_at (sym (ap s.prev joined) ∙ inv.backs t.at at_on at_up) in
       let down = subst (λ z. before rank (s.spot t.at) (s.spot z) ≡ true) joined (inv.rises t.at at_on at_up) in
       let step = subst (λ z. before rank (s.spot q) (s.spot z) ≡ true) leads (inv.rises q on up) in
-      subst (λ z. Precedes z p) (sym (prevs ∙ prev-of-q)) (record { on = at_on; below = before_chains rank laws (s.spot t.at) (s.spot q) (s.spot p) down step })
+      subst (λ z. Precedes z p) (sym (prevs ∙ prev_of_q)) (record { on = at_on; below = before_chains rank laws (s.spot t.at) (s.spot q) (s.spot p) down step })
     where
       other_apart : (u : Task K) → s.task j ≡ Some u → is_keyed (rung u.phase) ≡ true → leb 3 (group u.phase) ≡ true → u.other ≡ u.at → ⊥
       other_apart u isu keyed past e =
@@ -88,8 +88,8 @@ module _ {K : Type 0} (rank : K → K → Ordering) (laws : Laws rank) (s : Sigh
 
   -- The predecessor of a place of the chain other than Low.
   pub precedes : (p : ℕ) → chained s p ≡ true → (p ≡ low → ⊥) → Precedes (s.prev p) p
-  precedes p on low-not =
-      let f = inv.follows p on low-not in
+  precedes p on low_not =
+      let f = inv.follows p on low_not in
       by f.0 f.1 f.2 f.3 (holder_in is_lagging s.task (s.lock f.0) f.0) refl (sym (ap s.prev f.3) ∙ inv.backs f.0 f.1 f.2)
     where
       by : (q : ℕ) → chained s q ≡ true → (q ≡ high → ⊥) → s.next q ≡ p → (b : Bool) → holder_in is_lagging s.task (s.lock q) q ≡ b

@@ -26,9 +26,9 @@ at_with_other f p q a d = at_with_both f p q a (λ x. x ≡ f q) (λ e. absurd (
 pub at_with_same : {A : Type 0} (f : ℕ → A) (p : ℕ) (a : A) → at_with f p a p ≡ a
 at_with_same f p a = at_with_both f p p a (λ x. x ≡ a) (λ _. refl) (λ d. absurd (d refl))
 
-module _ {K : Type 0} (rank : K → K → Ordering) (laws : Laws rank) (s : Sight K) (inv : Inv rank s) (me : ℕ) (t : Task K) (is-task : s.task me ≡ Some t) where
+module _ {K : Type 0} (rank : K → K → Ordering) (laws : Laws rank) (s : Sight K) (inv : Inv rank s) (me : ℕ) (t : Task K) (is_task : s.task me ≡ Some t) where
   st : Stands rank s.spot s.next s.prev s.marked s.status t
-  st = inv.stands me t is-task
+  st = inv.stands me t is_task
 
   -- A place that has a key is neither Low nor High.
   pub keyed_not_high : (p : ℕ) (k : K) → s.spot p ≡ exact k → p ≡ high → ⊥
@@ -51,11 +51,11 @@ module _ {K : Type 0} (rank : K → K → Ordering) (laws : Laws rank) (s : Sigh
       go (Some i) =
           at_with_both s.task me i (Some u) (λ x. other_in f x p ≡ other_in f (s.task i) p)
           (λ e. and_right (f (rung u.phase)) (eqb u.other p) (ne_eqb u.other p (λ q. d (sym same ∙ q)))
-          ∙ sym (ap (λ j. other_in f (s.task j) p) (sym e) ∙ ap (λ x. other_in f x p) is-task ∙ and_right (f (rung t.phase)) (eqb t.other p) (ne_eqb t.other p d)))
+          ∙ sym (ap (λ j. other_in f (s.task j) p) (sym e) ∙ ap (λ x. other_in f x p) is_task ∙ and_right (f (rung t.phase)) (eqb t.other p) (ne_eqb t.other p d)))
           (λ _. refl)
 
   module _ (joins : is_joined (rung t.phase) ≡ true) (keyed : is_keyed (rung t.phase) ≡ true) (u : Task K) (b : ℕ)
-      (same_at : u.at ≡ t.at) (same-other : u.other ≡ t.other) (aw : u.awaited ≡ t.awaited) (sound : Sound rank s me u) (unhanded : is_handing (rung u.phase) ≡ false)
+      (same_at : u.at ≡ t.at) (same_other : u.other ≡ t.other) (aw : u.awaited ≡ t.awaited) (sound : Sound rank s me u) (unhanded : is_handing (rung u.phase) ≡ false)
       (holding : (p : ℕ) → holds (Some u) p ≡ holds (Some t) p) (hiding : (p : ℕ) → other_in is_hiding (Some u) p ≡ other_in is_hiding (Some t) p)
       (detaching : (p : ℕ) → other_in is_detaching (Some u) p ≡ other_in is_detaching (Some t) p) (striking : (p : ℕ) → other_in is_striking (Some u) p ≡ other_in is_striking (Some t) p)
       (handing : (p : ℕ) → other_in is_handing (Some u) p ≡ other_in is_handing (Some t) p) (locked : holds_other (rung t.phase) ≡ true)
@@ -67,7 +67,7 @@ module _ {K : Type 0} (rank : K → K → Ordering) (laws : Laws rank) (s : Sigh
     n = s.next t.other
 
     x_chained : chained s t.other ≡ true
-    x_chained = joined_chained rank laws s inv me t is-task joins
+    x_chained = joined_chained rank laws s inv me t is_task joins
 
     x_not_high : t.other ≡ high → ⊥
     x_not_high = keyed_not_high t.other t.key (st.keyed keyed)
@@ -79,7 +79,7 @@ module _ {K : Type 0} (rank : K → K → Ordering) (laws : Laws rank) (s : Sigh
     n_not_x e = spots_differ rank laws s inv t.other (s.next t.other) (inv.rises t.other x_chained x_not_high) (sym e)
 
     lock_x : s.lock t.other ≡ Some me
-    lock_x = holds_own_other rank laws s inv me t is-task locked
+    lock_x = holds_own_other rank laws s inv me t is_task locked
 
     -- Nobody lags behind n: its predecessor's lock is held here.
     n_not_lagging : holder_in is_lagging s.task (s.lock (s.next t.other)) (s.next t.other) ≡ true → ⊥
@@ -92,7 +92,7 @@ module _ {K : Type 0} (rank : K → K → Ordering) (laws : Laws rank) (s : Sigh
         let same = next_injective rank laws s inv v.at t.other (so.at_chained (join_placed (rung v.phase) vj)) x_chained
         (at_not_high rank laws s inv holder.holder v is (join_placed (rung v.phase) vj)) x_not_high (so.joined vj ∙ holder.has.other_is) in
         let who = one_holder holder.holder me (s.lock t.other) (ap s.lock (sym same) ∙ holds_own_at rank laws s inv holder.holder v is (join_holds (rung v.phase) vj)) lock_x in
-        let mine : v ≡ t = just v t (sym is ∙ ap s.task who ∙ is-task) in
+        let mine : v ≡ t = just v t (sym is ∙ ap s.task who ∙ is_task) in
         n_not_x (sym holder.has.other_is ∙ ap (λ y. y.other) mine)
       where
         lag_joins : (r : ℕ) → is_lagging r ≡ true → is_joined r ≡ true
@@ -113,7 +113,7 @@ module _ {K : Type 0} (rank : K → K → Ordering) (laws : Laws rank) (s : Sigh
     backs_x : prev' (s.next t.other) ≡ cond (holder_in is_lagging task' (s.lock t.other) t.other) (prev' t.other) t.other
     backs_x =
         at_with_same s.prev (s.next t.other) b ∙ becomes
-        ∙ ap (λ y. cond (is_lagging (rung u.phase)) y t.other) (sym (at_with_other s.prev (s.next t.other) t.other b n_not_x ∙ joined_prev rank laws s inv me t is-task joins))
+        ∙ ap (λ y. cond (is_lagging (rung u.phase)) y t.other) (sym (at_with_other s.prev (s.next t.other) t.other b n_not_x ∙ joined_prev rank laws s inv me t is_task joins))
         ∙ ap (λ c. cond c (prev' t.other) t.other) (sym shows)
       where
         and_true : (c : Bool) → (c && true) ≡ c
@@ -123,7 +123,7 @@ module _ {K : Type 0} (rank : K → K → Ordering) (laws : Laws rank) (s : Sigh
         shows : holder_in is_lagging task' (s.lock t.other) t.other ≡ is_lagging (rung u.phase)
         shows =
             ap (λ l. holder_in is_lagging task' l t.other) lock_x ∙ ap (λ y. other_in is_lagging y t.other) (at_with_same s.task me (Some u))
-            ∙ ap (λ c. is_lagging (rung u.phase) && c) (eq-eqb u.other t.other same-other) ∙ and_true (is_lagging (rung u.phase))
+            ∙ ap (λ c. is_lagging (rung u.phase) && c) (eq-eqb u.other t.other same_other) ∙ and_true (is_lagging (rung u.phase))
 
     backs_other : (p : ℕ) → chained s p ≡ true → (p ≡ high → ⊥) → (t.other ≡ p → ⊥)
         → prev' (s.next p) ≡ cond (holder_in is_lagging task' (s.lock p) p) (prev' p) p
@@ -131,7 +131,7 @@ module _ {K : Type 0} (rank : K → K → Ordering) (laws : Laws rank) (s : Sigh
         at_with_other s.prev (s.next t.other) (s.next p) b (λ e. d (next_injective rank laws s inv t.other p x_chained c x_not_high h e))
         ∙ inv.backs p c h
         ∙ go (holder_in is_lagging s.task (s.lock p) p) refl
-        ∙ ap (λ y. cond y (prev' p) p) (sym (lag_elsewhere is_lagging u same-other p d))
+        ∙ ap (λ y. cond y (prev' p) p) (sym (lag_elsewhere is_lagging u same_other p d))
       where
         go : (y : Bool) → holder_in is_lagging s.task (s.lock p) p ≡ y → cond y (s.prev p) p ≡ cond y (prev' p) p
         go false e = refl
@@ -164,7 +164,7 @@ module _ {K : Type 0} (rank : K → K → Ordering) (laws : Laws rank) (s : Sigh
         (λ _ e. record { fit = inv.fit i v e; seen = inv.seen i v e; stands = inv.stands i v e })
 
     alike : (f : ℕ → Bool) → ((p : ℕ) → other_in f (Some u) p ≡ other_in f (Some t) p) → (l : Option ℕ) (p : ℕ) → holder_in f task' l p ≡ holder_in f s.task l p
-    alike f same l p = holder_same s.task me (Some u) f (λ q. same q ∙ ap (λ y. other_in f y q) (sym is-task)) l p
+    alike f same l p = holder_same s.task me (Some u) f (λ q. same q ∙ ap (λ y. other_in f y q) (sym is_task)) l p
 
     pub prev_write_keeps : Inv rank (task_put me (Some u) (prev_put (s.next t.other) b s))
     prev_write_keeps = record {
@@ -187,15 +187,15 @@ module _ {K : Type 0} (rank : K → K → Ordering) (laws : Laws rank) (s : Sigh
         | inr d ↦ backs_other p c h d
       ];
       locks = λ i p. inv.locks i p
-          ∙ sym (at_with_both s.task me i (Some u) (λ y. holds y p ≡ holds (s.task i) p) (λ e. holding p ∙ ap (λ y. holds y p) (sym is-task) ∙ ap (λ j. holds (s.task j) p) e) (λ _. refl));
+          ∙ sym (at_with_both s.task me i (Some u) (λ y. holds y p ≡ holds (s.task i) p) (λ e. holding p ∙ ap (λ y. holds y p) (sym is_task) ∙ ap (λ j. holds (s.task j) p) e) (λ _. refl));
       fit = λ i v e. (sound_all i v e).fit;
       seen = λ i v e. (sound_all i v e).seen;
       stands = λ i v e. stands_kept i v (sound_all i v e);
-      marks = λ p c m. let has = inv.marks p c m in (has.0, other_alike rank s inv me t is-task is_striking u striking has.0 p ∙ has.1);
-      hands = λ p h. let has = inv.hands p h in (has.0, other_alike rank s inv me t is-task is_handing u handing has.0 p ∙ has.1);
-      hands_apart = λ i j p y z. inv.hands_apart i j p (sym (other_alike rank s inv me t is-task is_handing u handing i p) ∙ y) (sym (other_alike rank s inv me t is-task is_handing u handing j p) ∙ z);
+      marks = λ p c m. let has = inv.marks p c m in (has.0, other_alike rank s inv me t is_task is_striking u striking has.0 p ∙ has.1);
+      hands = λ p h. let has = inv.hands p h in (has.0, other_alike rank s inv me t is_task is_handing u handing has.0 p ∙ has.1);
+      hands_apart = λ i j p y z. inv.hands_apart i j p (sym (other_alike rank s inv me t is_task is_handing u handing i p) ∙ y) (sym (other_alike rank s inv me t is_task is_handing u handing j p) ∙ z);
       rests = inv.rests;
-      awaits = λ p w r i h. awaited_with rank s inv me t is-task u aw i (inv.awaits p w r i h);
+      awaits = λ p w r i h. awaited_with rank s inv me t is_task u aw i (inv.awaits p w r i h);
       next_seen = inv.next_seen;
       prev_seen = λ p w r i h. ap (seen_by s i) (prev_kept p (ap is_chained r)) ∙ inv.prev_seen p w r i h;
       guide_rises = inv.guide_rises;

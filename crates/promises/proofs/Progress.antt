@@ -251,8 +251,8 @@ module _ {K : Type 0} (rank : K → K → Ordering) (laws : Laws rank) (b : Book
 
   walk_of : (p : ℕ) → chained (sight_of b) p ≡ true → (p ≡ high → ⊥) → (ys : List ℕ) × Walks (sight_of b) p ys
   walk_of p ch not_high =
-      let low-ch = low_is_chained rank laws (sight_of b) inv in
-      let whole : Walks (sight_of b) low (low ∷ chain b.places) = (refl, (λ e. omega arith), low-ch, chain_walks rank laws b.places b.stations b.guide inv) in
+      let low_ch = low_is_chained rank laws (sight_of b) inv in
+      let whole : Walks (sight_of b) low (low ∷ chain b.places) = (refl, (λ e. omega arith), low_ch, chain_walks rank laws b.places b.stations b.guide inv) in
       rest_of_walk (low ∷ chain b.places) low whole p
       (walk_has rank laws (sight_of b) inv (low ∷ chain b.places) low p whole ch not_high
       (⊎_elim (λ e. inl (eqb-true low p e)) (λ e. inr (above_low rank laws (sight_of b) inv p ch (λ same. eqb-false low p e (sym same)))) (cases_Bool (eqb low p))))
@@ -269,7 +269,7 @@ module _ {K : Type 0} (rank : K → K → Ordering) (laws : Laws rank) (b : Book
   pub someone_can_go_on : (i : ℕ) (t : Task K) → UnderWay rank b i t → is_change t.work ≡ true → (j : ℕ) × CanGoOn rank b j
   someone_can_go_on i t is change =
       ⊎_elim (λ held. follow_holder i t.at held)
-      (λ at-free. ⊎_elim (λ held. follow_holder i ((sight_of b).next t.at) held) (λ next-free. (i, free_goes_on i t is change (free at-free next-free)))
+      (λ at_free. ⊎_elim (λ held. follow_holder i ((sight_of b).next t.at) held) (λ next_free. (i, free_goes_on i t is change (free at_free next_free)))
       (cases_Bool (held_by_other i ((sight_of b).lock ((sight_of b).next t.at)))))
       (cases_Bool (held_by_other i ((sight_of b).lock t.at)))
     where

@@ -115,7 +115,7 @@ rests_still i w h = go (anyone w) refl
     go true e = ap rests same ∙ ap (λ c. cond c (Retired w) Free) e
     go false e = refl
 
-module _ {K : Type 0} (rank : K → K → Ordering) (laws : Laws rank) (s : Sight K) (inv : Inv rank s) (me : ℕ) (t : Task K) (is-task : s.task me ≡ Some t)
+module _ {K : Type 0} (rank : K → K → Ordering) (laws : Laws rank) (s : Sight K) (inv : Inv rank s) (me : ℕ) (t : Task K) (is_task : s.task me ≡ Some t)
     (stationed : (j : ℕ) → is_some (s.task j) ≡ true → j < most_stations) (o : Outcome K) (mid : Sight K) where
   pub keeps_strike_ends : t.phase ≡ StrikeEnd → t.other < s.size → o ≡ Retires t.other → mid ≡ lock_put t.at None s → Kept rank me t o mid
   keeps_strike_ends e within oc se =
@@ -126,7 +126,7 @@ module _ {K : Type 0} (rank : K → K → Ordering) (laws : Laws rank) (s : Sigh
       own w others = record { many = others.many; each = others.each }
 
       placed : (v : Task K) → s.task me ≡ Some v → chained s v.at ≡ true
-      placed v is = (inv.stands me v is).at_chained (ap (λ y. is_placed (rung y.phase)) (just v t (sym is ∙ is-task)) ∙ ap (λ y. is_placed (rung y)) e)
+      placed v is = (inv.stands me v is).at_chained (ap (λ y. is_placed (rung y.phase)) (just v t (sym is ∙ is_task)) ∙ ap (λ y. is_placed (rung y)) e)
 
       not_me : (w : List Bool) → Others me s w → (c : Bool) → get_or w me false ≡ c → c ≡ false
       not_me w others false h = refl
@@ -134,10 +134,10 @@ module _ {K : Type 0} (rank : K → K → Ordering) (laws : Laws rank) (s : Sigh
 
       over : (w : List Bool) → Others me s w → (a : Bool) → t.awaited ≡ a → Inv rank (work_over me a (retire_put t.other (rests w) (lock_put t.at None s)))
       over w others false aw =
-          retire_keeps rank laws s inv me t is-task e within stationed (λ p v r g. never (sym (inv.awaits p v r me g) ∙ ap is_awaited is-task ∙ aw)) w others
+          retire_keeps rank laws s inv me t is_task e within stationed (λ p v r g. never (sym (inv.awaits p v r me g) ∙ ap is_awaited is_task ∙ aw)) w others
       over w others true aw =
           subst (Inv rank) same
-          (retire_keeps rank laws (quieted me s) (quieted_keeps rank s inv me placed) me t is-task e within stationed (quiet rank s inv me) w (record { many = others.many; each = others.each }))
+          (retire_keeps rank laws (quieted me s) (quieted_keeps rank s inv me placed) me t is_task e within stationed (quiet rank s inv me) w (record { many = others.many; each = others.each }))
         where
           same : retired_by me t.at t.other (rests w) (quieted me s) ≡ work_over me true (retire_put t.other (rests w) (lock_put t.at None s))
           same = alike _ _ record {

@@ -20,12 +20,12 @@ use Rattle.promises.proofs.Walking.{Kept}
 use Rattle.promises.proofs.Relocks.{just, lock_is_taken, lock_is_released, both_fail}
 use Rattle.promises.proofs.Locking.{free_lock, or_false, leaves_first, next_injective}
 
-module _ {K : Type 0} (rank : K → K → Ordering) (laws : Laws rank) (s : Sight K) (inv : Inv rank s) (me : ℕ) (t : Task K) (is-task : s.task me ≡ Some t) where
+module _ {K : Type 0} (rank : K → K → Ordering) (laws : Laws rank) (s : Sight K) (inv : Inv rank s) (me : ℕ) (t : Task K) (is_task : s.task me ≡ Some t) where
   st : Stands rank s.spot s.next s.prev s.marked s.status t
-  st = inv.stands me t is-task
+  st = inv.stands me t is_task
 
   fit_here : (ph : Phase) → t.phase ≡ ph → fits t.work (group ph) ≡ true
-  fit_here ph e = subst (λ x. fits t.work (group x) ≡ true) e (inv.fit me t is-task)
+  fit_here ph e = subst (λ x. fits t.work (group x) ≡ true) e (inv.fit me t is_task)
 
   held_here : (q : ℕ) (ph : Phase) → t.phase ≡ ph
       → holds (Some t) q ≡ ((holds_at (rung ph) && eqb t.at q) || (holds_other (rung ph) && eqb t.other q))
@@ -43,7 +43,7 @@ module _ {K : Type 0} (rank : K → K → Ordering) (laws : Laws rank) (s : Sigh
       c = st.at_chained placed
 
       nh : t.at ≡ high → ⊥
-      nh = at_not_high rank laws s inv me t is-task placed
+      nh = at_not_high rank laws s inv me t is_task placed
 
       striking_joined : (r : ℕ) → is_striking r ≡ true → is_joined r ≡ true
       striking_joined r h = grind (arith, nat_tests)
@@ -68,8 +68,8 @@ module _ {K : Type 0} (rank : K → K → Ordering) (laws : Laws rank) (s : Sigh
           let same = next_injective rank laws s inv v.at t.at (so.at_chained (joined_placed (rung v.phase) joins)) c
           (at_not_high rank laws s inv found.0 v other.is (joined_placed (rung v.phase) joins)) nh (so.joined joins ∙ other.other_is) in
           let who = same_holder found.0 me (s.lock t.at) (ap s.lock (sym same) ∙ holds_own_at rank laws s inv found.0 v other.is (joined_holds (rung v.phase) joins))
-          (holds_own_at rank laws s inv me t is-task held) in
-          let mine : v ≡ t = just v t (sym other.is ∙ ap s.task who ∙ is-task) in
+          (holds_own_at rank laws s inv me t is_task held) in
+          let mine : v ≡ t = just v t (sym other.is ∙ ap s.task who ∙ is_task) in
           never (sym other.rung_is ∙ ap (λ x. is_striking (rung x.phase)) mine ∙ quiet)
 
   module _ (o : Outcome K) (mid : Sight K) where
@@ -79,12 +79,12 @@ module _ {K : Type 0} (rank : K → K → Ordering) (laws : Laws rank) (s : Sigh
     pub keeps_releases_new : t.phase ≡ ReleaseNew → o ≡ Goes (into PutEnd t) → mid ≡ lock_put t.other None s → It
     keeps_releases_new e oc se =
         Kept.goes (into PutEnd t) oc (λ n. subst (λ x. Inv rank (task_put me (Some (with_steps n (into PutEnd t))) x)) (sym se)
-        (lock_is_released rank s inv me t is-task (with_steps n (into PutEnd t)) t.other None (sound n) refl
+        (lock_is_released rank s inv me t is_task (with_steps n (into PutEnd t)) t.other None (sound n) refl
         (ap (λ x. is_lagging (rung x)) e, ap (λ x. is_hiding (rung x)) e, ap (λ x. is_detaching (rung x)) e) (refl, refl, refl)
-        (both_fail rank s inv me t is-task is_striking (with_steps n (into PutEnd t)) (ap (λ x. is_striking (rung x)) e) refl)
-        (both_fail rank s inv me t is-task is_handing (with_steps n (into PutEnd t)) (ap (λ x. is_handing (rung x)) e) refl)
-        (holds_own_other rank laws s inv me t is-task (ap (λ x. holds_other (rung x)) e)) refl
-        (λ q. leaves_first t.at t.other q (joined_differ rank laws s inv me t is-task (ap (λ x. is_joined (rung x)) e))
+        (both_fail rank s inv me t is_task is_striking (with_steps n (into PutEnd t)) (ap (λ x. is_striking (rung x)) e) refl)
+        (both_fail rank s inv me t is_task is_handing (with_steps n (into PutEnd t)) (ap (λ x. is_handing (rung x)) e) refl)
+        (holds_own_other rank laws s inv me t is_task (ap (λ x. holds_other (rung x)) e)) refl
+        (λ q. leaves_first t.at t.other q (joined_differ rank laws s inv me t is_task (ap (λ x. is_joined (rung x)) e))
         ∙ sym (ap (λ x. x && not (eqb t.other q)) (held_here q ReleaseNew e)))))
       where
         placed : is_placed (rung t.phase) ≡ true
@@ -93,7 +93,7 @@ module _ {K : Type 0} (rank : K → K → Ordering) (laws : Laws rank) (s : Sigh
         sound : (n : ℕ) → Sound rank s me (with_steps n (into PutEnd t))
         sound n = record {
           fit = fit_here ReleaseNew e;
-          seen = inv.seen me t is-task;
+          seen = inv.seen me t is_task;
           stands = record {
             at_chained = λ _. st.at_chained placed;
             at_unmarked = λ _. st.at_unmarked placed;
@@ -113,11 +113,11 @@ module _ {K : Type 0} (rank : K → K → Ordering) (laws : Laws rank) (s : Sigh
     pub keeps_releases_victim : t.phase ≡ ReleaseVictim → o ≡ Goes (into StrikeEnd t) → mid ≡ lock_put t.other None s → It
     keeps_releases_victim e oc se =
         Kept.goes (into StrikeEnd t) oc (λ n. subst (λ x. Inv rank (task_put me (Some (with_steps n (into StrikeEnd t))) x)) (sym se)
-        (lock_is_released rank s inv me t is-task (with_steps n (into StrikeEnd t)) t.other None (sound n) refl
+        (lock_is_released rank s inv me t is_task (with_steps n (into StrikeEnd t)) t.other None (sound n) refl
         (ap (λ x. is_lagging (rung x)) e, ap (λ x. is_hiding (rung x)) e, ap (λ x. is_detaching (rung x)) e) (refl, refl, refl)
-        (both_fail rank s inv me t is-task is_striking (with_steps n (into StrikeEnd t)) (ap (λ x. is_striking (rung x)) e) refl)
+        (both_fail rank s inv me t is_task is_striking (with_steps n (into StrikeEnd t)) (ap (λ x. is_striking (rung x)) e) refl)
         (λ q. ap (λ x. is_handing (rung x) && eqb t.other q) (sym e))
-        (holds_own_other rank laws s inv me t is-task (ap (λ x. holds_other (rung x)) e)) refl
+        (holds_own_other rank laws s inv me t is_task (ap (λ x. holds_other (rung x)) e)) refl
         (λ q. leaves_first t.at t.other q (in_hand_differ (ap (λ x. is_handing (rung x)) e) placed)
         ∙ sym (ap (λ x. x && not (eqb t.other q)) (held_here q ReleaseVictim e)))))
       where
@@ -127,7 +127,7 @@ module _ {K : Type 0} (rank : K → K → Ordering) (laws : Laws rank) (s : Sigh
         sound : (n : ℕ) → Sound rank s me (with_steps n (into StrikeEnd t))
         sound n = record {
           fit = fit_here ReleaseVictim e;
-          seen = inv.seen me t is-task;
+          seen = inv.seen me t is_task;
           stands = record {
             at_chained = λ _. st.at_chained placed;
             at_unmarked = λ _. st.at_unmarked placed;
@@ -148,13 +148,13 @@ module _ {K : Type 0} (rank : K → K → Ordering) (laws : Laws rank) (s : Sigh
         → mid ≡ lock_put (s.next t.at) (Some me) s → It
     keeps_victim_taken e held oc se =
         Kept.goes u oc (λ n. subst (λ x. Inv rank (task_put me (Some (with_steps n u)) x)) (sym se)
-        (lock_is_taken rank s inv me t is-task (with_steps n u) (s.next t.at) (Some me) (sound n) refl
+        (lock_is_taken rank s inv me t is_task (with_steps n u) (s.next t.at) (Some me) (sound n) refl
         (ap (λ x. is_lagging (rung x)) e, ap (λ x. is_hiding (rung x)) e, ap (λ x. is_detaching (rung x)) e) (refl, refl, refl)
-        (both_fail rank s inv me t is-task is_striking (with_steps n u) (ap (λ x. is_striking (rung x)) e) refl)
-        (both_fail rank s inv me t is-task is_handing (with_steps n u) (ap (λ x. is_handing (rung x)) e) refl)
+        (both_fail rank s inv me t is_task is_striking (with_steps n u) (ap (λ x. is_striking (rung x)) e) refl)
+        (both_fail rank s inv me t is_task is_handing (with_steps n u) (ap (λ x. is_handing (rung x)) e) refl)
         (free_lock me (s.lock (s.next t.at)) held
-        (inv.locks me (s.next t.at) ∙ ap (λ x. holds x (s.next t.at)) is-task ∙ held_here (s.next t.at) TakeVictim e
-        ∙ ap (λ b. b || false) (ne_eqb t.at (s.next t.at) (spots_differ rank laws s inv t.at (s.next t.at) (inv.rises t.at (st.at_chained placed) (at_not_high rank laws s inv me t is-task placed)))))) refl
+        (inv.locks me (s.next t.at) ∙ ap (λ x. holds x (s.next t.at)) is_task ∙ held_here (s.next t.at) TakeVictim e
+        ∙ ap (λ b. b || false) (ne_eqb t.at (s.next t.at) (spots_differ rank laws s inv t.at (s.next t.at) (inv.rises t.at (st.at_chained placed) (at_not_high rank laws s inv me t is_task placed)))))) refl
         (λ q. ap (λ b. b || eqb (s.next t.at) q) (sym (held_here q TakeVictim e ∙ or_false (eqb t.at q))))))
       where
         u : Task K
@@ -166,7 +166,7 @@ module _ {K : Type 0} (rank : K → K → Ordering) (laws : Laws rank) (s : Sigh
         sound : (n : ℕ) → Sound rank s me (with_steps n u)
         sound n = record {
           fit = fit_here TakeVictim e;
-          seen = inv.seen me t is-task;
+          seen = inv.seen me t is_task;
           stands = record {
             at_chained = λ _. st.at_chained placed;
             at_unmarked = λ _. st.at_unmarked placed;

@@ -59,7 +59,7 @@ module _ {K : Type 0} (rank : K → K → Ordering) (s : Sight K) (lock : ℕ �
 pub just : {A : Type 0} (u v : A) → ◌≡◌ {A = Option A} (Some u) (Some v) → u ≡ v
 just u v e = cc
 
-module _ {K : Type 0} (rank : K → K → Ordering) (s : Sight K) (inv : Inv rank s) (me : ℕ) (t : Task K) (is-task : s.task me ≡ Some t) where
+module _ {K : Type 0} (rank : K → K → Ordering) (s : Sight K) (inv : Inv rank s) (me : ℕ) (t : Task K) (is_task : s.task me ≡ Some t) where
   -- The works of the others, and a new one here.
   pub sound_with : (u : Task K) → Sound rank s me u → (i : ℕ) (v : Task K) → at_with s.task me (Some u) i ≡ Some v → Sound rank s i v
   sound_with u sound i v =
@@ -70,12 +70,12 @@ module _ {K : Type 0} (rank : K → K → Ordering) (s : Sight K) (inv : Inv ran
   pub awaited_with : (u : Task K) → u.awaited ≡ t.awaited → (i : ℕ) → is_awaited (s.task i) ≡ true → is_awaited (at_with s.task me (Some u) i) ≡ true
   awaited_with u same i h =
       at_with_both s.task me i (Some u) (λ x. is_awaited x ≡ true)
-      (λ e. same ∙ sym (ap is_awaited is-task) ∙ ap (λ j. is_awaited (s.task j)) e ∙ h) (λ _. h)
+      (λ e. same ∙ sym (ap is_awaited is_task) ∙ ap (λ j. is_awaited (s.task j)) e ∙ h) (λ _. h)
 
   -- The other place is alike for a rung test that neither task passes.
   pub other_alike : (f : ℕ → Bool) (u : Task K) → ((p : ℕ) → other_in f (Some u) p ≡ other_in f (Some t) p)
       → (i p : ℕ) → other_in f (at_with s.task me (Some u) i) p ≡ other_in f (s.task i) p
-  other_alike f u same i p = other_in_same s.task me (Some u) f (λ q. same q ∙ ap (λ x. other_in f x q) (sym is-task)) i p
+  other_alike f u same i p = other_in_same s.task me (Some u) f (λ q. same q ∙ ap (λ x. other_in f x q) (sym is_task)) i p
 
   failing : (f : ℕ → Bool) (u : Task K) → f (rung u.phase) ≡ false → (p : ℕ) → other_in f (Some u) p ≡ false
   failing f u h p = ap (λ b. b && eqb u.other p) h
@@ -103,22 +103,22 @@ module _ {K : Type 0} (rank : K → K → Ordering) (s : Sight K) (inv : Inv ran
 
       old : (s.lock p ≡ None) ⊎ (s.lock p ≡ Some me) → holder_in f s.task (s.lock p) q ≡ false
       old (inl e) = ap (λ x. holder_in f s.task x q) e
-      old (inr e) = ap (λ x. holder_in f s.task x q) e ∙ ap (λ x. other_in f x q) is-task ∙ failing f t h q
+      old (inr e) = ap (λ x. holder_in f s.task x q) e ∙ ap (λ x. other_in f x q) is_task ∙ failing f t h q
 
   -- A rung that shows nothing by a lock.
   abbrev Plain : ℕ → Type 0
   Plain r = (is_lagging r ≡ false) × (is_hiding r ≡ false) × (is_detaching r ≡ false)
 
-  module _ (u : Task K) (p : ℕ) (l : Option ℕ) (sound : Sound rank s me u) (aw : u.awaited ≡ t.awaited) (before-plain : Plain (rung t.phase)) (after-plain : Plain (rung u.phase))
+  module _ (u : Task K) (p : ℕ) (l : Option ℕ) (sound : Sound rank s me u) (aw : u.awaited ≡ t.awaited) (before_plain : Plain (rung t.phase)) (after_plain : Plain (rung u.phase))
       (striking : (q : ℕ) → other_in is_striking (Some u) q ≡ other_in is_striking (Some t) q) (handing : (q : ℕ) → other_in is_handing (Some u) q ≡ other_in is_handing (Some t) q) where
     relocks : (l ≡ None) ⊎ (l ≡ Some me) → (s.lock p ≡ None) ⊎ (s.lock p ≡ Some me)
         → ((i q : ℕ) → locked_by i (at_with s.lock p l q) ≡ holds (at_with s.task me (Some u) i) q)
         → Inv rank (task_put me (Some u) (lock_put p l s))
     relocks now was locks =
         relock rank s (at_with s.lock p l) (at_with s.task me (Some u)) inv locks
-        (holder_alike is_lagging u p l before-plain.0 after-plain.0 now was)
-        (holder_alike is_hiding u p l before-plain.1 after-plain.1 now was)
-        (holder_alike is_detaching u p l before-plain.2 after-plain.2 now was)
+        (holder_alike is_lagging u p l before_plain.0 after_plain.0 now was)
+        (holder_alike is_hiding u p l before_plain.1 after_plain.1 now was)
+        (holder_alike is_detaching u p l before_plain.2 after_plain.2 now was)
         (other_alike is_striking u striking) (other_alike is_handing u handing) (awaited_with u aw) (sound_with u sound)
 
     locked_none : (i : ℕ) (x : Option ℕ) → x ≡ None → locked_by i x ≡ false
@@ -132,7 +132,7 @@ module _ {K : Type 0} (rank : K → K → Ordering) (s : Sight K) (inv : Inv ran
         go i q =
             let old = inv.locks i q in
             let mine = inv.locks me q in
-            let mine_is = ap (λ x. holds x q) is-task in
+            let mine_is = ap (λ x. holds x q) is_task in
             let held = holding q in
             let here = ap (locked_by i) now in
             let none = λ (e : p ≡ q). locked_none i (s.lock q) (ap s.lock (sym e) ∙ was) in
@@ -154,7 +154,7 @@ module _ {K : Type 0} (rank : K → K → Ordering) (s : Sight K) (inv : Inv ran
         go : (i q : ℕ) → locked_by i (at_with s.lock p l q) ≡ holds (at_with s.task me (Some u) i) q
         go i q =
             let old = inv.locks i q in
-            let mine_is = ap (λ x. holds x q) is-task in
+            let mine_is = ap (λ x. holds x q) is_task in
             let held = holding q in
             let here = ap (locked_by i) now in
             at_with_both s.task me i (Some u) (λ x. locked_by i (at_with s.lock p l q) ≡ holds x q)

@@ -26,9 +26,9 @@ use Rattle.promises.proofs.Preds.{one_holder, at_with_other, at_with_same, keyed
 use Rattle.promises.proofs.Sees.{at_not_other}
 use Rattle.promises.proofs.Marking.{holds_by}
 
-module _ {K : Type 0} (rank : K → K → Ordering) (laws : Laws rank) (s : Sight K) (inv : Inv rank s) (me : ℕ) (t : Task K) (is-task : s.task me ≡ Some t) (e : t.phase ≡ Unlink) where
+module _ {K : Type 0} (rank : K → K → Ordering) (laws : Laws rank) (s : Sight K) (inv : Inv rank s) (me : ℕ) (t : Task K) (is_task : s.task me ≡ Some t) (e : t.phase ≡ Unlink) where
   st : Stands rank s.spot s.next s.prev s.marked s.status t
-  st = inv.stands me t is-task
+  st = inv.stands me t is_task
 
   by : (f : ℕ → Bool) → f 11 ≡ true → f (rung t.phase) ≡ true
   by f h = ap (λ x. f (rung x)) e ∙ h
@@ -50,16 +50,16 @@ module _ {K : Type 0} (rank : K → K → Ordering) (laws : Laws rank) (s : Sigh
   b_chained = st.at_chained (by is_placed refl)
 
   b_not_high : b ≡ high → ⊥
-  b_not_high = at_not_high rank laws s inv me t is-task (by is_placed refl)
+  b_not_high = at_not_high rank laws s inv me t is_task (by is_placed refl)
 
   next_b : s.next b ≡ x
   next_b = st.joined (by is_joined refl)
 
   x_chained : chained s x ≡ true
-  x_chained = joined_chained rank laws s inv me t is-task (by is_joined refl)
+  x_chained = joined_chained rank laws s inv me t is_task (by is_joined refl)
 
   x_not_b : x ≡ b → ⊥
-  x_not_b = joined_differ rank laws s inv me t is-task (by is_joined refl)
+  x_not_b = joined_differ rank laws s inv me t is_task (by is_joined refl)
 
   b_not_x : b ≡ x → ⊥
   b_not_x h = x_not_b (sym h)
@@ -68,7 +68,7 @@ module _ {K : Type 0} (rank : K → K → Ordering) (laws : Laws rank) (s : Sigh
   x_keyed = st.keyed (by is_keyed refl)
 
   x_not_high : x ≡ high → ⊥
-  x_not_high = keyed_not_high rank laws s inv me t is-task x t.key x_keyed
+  x_not_high = keyed_not_high rank laws s inv me t is_task x t.key x_keyed
 
   b_below_x : below (s.spot b) (s.spot x)
   b_below_x = ap (λ q. before rank (s.spot b) (s.spot q)) (sym next_b) ∙ inv.rises b b_chained b_not_high
@@ -83,16 +83,16 @@ module _ {K : Type 0} (rank : K → K → Ordering) (laws : Laws rank) (s : Sigh
   x_not_n = spots_differ rank laws s inv x n x_below_n
 
   lock_b : s.lock b ≡ Some me
-  lock_b = holds_own_at rank laws s inv me t is-task (by holds_at refl)
+  lock_b = holds_own_at rank laws s inv me t is_task (by holds_at refl)
 
   lock_x : s.lock x ≡ Some me
-  lock_x = holds_own_other rank laws s inv me t is-task (by holds_other refl)
+  lock_x = holds_own_other rank laws s inv me t is_task (by holds_other refl)
 
   chains : (p q r : ℕ) → below (s.spot p) (s.spot q) → below (s.spot q) (s.spot r) → below (s.spot p) (s.spot r)
   chains p q r = before_chains rank laws (s.spot p) (s.spot q) (s.spot r)
 
   prev_x : s.prev x ≡ b
-  prev_x = joined_prev rank laws s inv me t is-task (by is_joined refl)
+  prev_x = joined_prev rank laws s inv me t is_task (by is_joined refl)
 
   -- ---- what is read after the write
 
@@ -180,7 +180,7 @@ module _ {K : Type 0} (rank : K → K → Ordering) (laws : Laws rank) (s : Sigh
     own_task = at_with_same s.task me (Some u)
 
     elsewhere : (f : ℕ → Bool) (p : ℕ) → (x ≡ p → ⊥) → holder_in f task' (s.lock p) p ≡ holder_in f s.task (s.lock p) p
-    elsewhere f p d = lag_elsewhere rank laws s inv me t is-task f u refl p d
+    elsewhere f p d = lag_elsewhere rank laws s inv me t is_task f u refl p d
 
     and_true : (c : Bool) → (c && true) ≡ c
     and_true true = refl
@@ -191,13 +191,13 @@ module _ {K : Type 0} (rank : K → K → Ordering) (laws : Laws rank) (s : Sigh
 
     at_x_before : (f : ℕ → Bool) → holder_in f s.task (s.lock x) x ≡ f 11
     at_x_before f =
-        ap (λ l. holder_in f s.task l x) lock_x ∙ ap (λ y. other_in f y x) is-task ∙ ap (λ c. f (rung t.phase) && c) (eq-eqb x x refl) ∙ and_true (f (rung t.phase))
+        ap (λ l. holder_in f s.task l x) lock_x ∙ ap (λ y. other_in f y x) is_task ∙ ap (λ c. f (rung t.phase) && c) (eq-eqb x x refl) ∙ and_true (f (rung t.phase))
         ∙ ap (λ y. f (rung y)) e
 
     backs' : (p : ℕ) → is_chained (status' p) ≡ true → (p ≡ high → ⊥) → s.prev (next' p) ≡ cond (holder_in is_lagging task' (s.lock p) p) (s.prev p) p
     backs' p c h = by_b p (λ q. s.prev (next' q) ≡ cond (holder_in is_lagging task' (s.lock q) q) (s.prev q) q)
         (ap s.prev next_at_b ∙ inv.backs x x_chained x_not_high ∙ ap (λ y. cond y (s.prev x) x) (at_x_before is_lagging) ∙ prev_x
-        ∙ ap (λ y. cond y (s.prev b) b) (sym (elsewhere is_lagging b x_not_b ∙ at_not_other rank laws s inv me t is-task is_lagging (by holds_at refl) x_not_b)))
+        ∙ ap (λ y. cond y (s.prev b) b) (sym (elsewhere is_lagging b x_not_b ∙ at_not_other rank laws s inv me t is_task is_lagging (by holds_at refl) x_not_b)))
         (λ d. ap s.prev (next_else p d) ∙ inv.backs p (was p c) h ∙ ap (λ y. cond y (s.prev p) p) (sym (elsewhere is_lagging p (not_x p c))))
 
     seen' : (i p : ℕ) → seen_by s i p ≡ true → (is_chained (status' p) || (s.marked p && waits_for i (status' p))) ≡ true
@@ -280,7 +280,7 @@ module _ {K : Type 0} (rank : K → K → Ordering) (laws : Laws rank) (s : Sigh
       guide_size = inv.guide_size;
       low_spot = inv.low_spot;
       high_spot = inv.high_spot;
-      low_chained = status_else low (keyed_not_low rank laws s inv me t is-task x t.key x_keyed) ∙ inv.low_chained;
+      low_chained = status_else low (keyed_not_low rank laws s inv me t is_task x t.key x_keyed) ∙ inv.low_chained;
       high_chained = status_else high x_not_high ∙ inv.high_chained;
       low_unmarked = inv.low_unmarked;
       high_unmarked = inv.high_unmarked;
@@ -292,11 +292,11 @@ module _ {K : Type 0} (rank : K → K → Ordering) (laws : Laws rank) (s : Sigh
       backs = backs';
       locks = λ i p. inv.locks i p
           ∙ sym (at_with_both s.task me i (Some u) (λ y. holds y p ≡ holds (s.task i) p)
-          (λ k. holds_by rank laws s inv me t is-task Unlink e 12 refl refl p ∙ ap (λ y. holds y p) (sym is-task) ∙ ap (λ j. holds (s.task j) p) k) (λ _. refl));
+          (λ k. holds_by rank laws s inv me t is_task Unlink e 12 refl refl p ∙ ap (λ y. holds y p) (sym is_task) ∙ ap (λ j. holds (s.task j) p) k) (λ _. refl));
       fit = λ i w. at_with_both s.task me i (Some u) (λ y. y ≡ Some w → fits w.work (group w.phase) ≡ true)
-          (λ _ k. ap (λ y. fits y.work (group y.phase)) (sym (just u w k)) ∙ ap (λ y. fits t.work (group y)) (sym e) ∙ inv.fit me t is-task) (λ _. inv.fit i w);
+          (λ _ k. ap (λ y. fits y.work (group y.phase)) (sym (just u w k)) ∙ ap (λ y. fits t.work (group y)) (sym e) ∙ inv.fit me t is_task) (λ _. inv.fit i w);
       seen = λ i w. at_with_both s.task me i (Some u) (λ y. y ≡ Some w → (is_chained (status' w.at) || (s.marked w.at && waits_for i (status' w.at))) ≡ true)
-          (λ same k. seen' i w.at (subst (λ j. seen_by s j w.at ≡ true) same (ap (λ y. seen_by s me y.at) (sym (just u w k)) ∙ inv.seen me t is-task)))
+          (λ same k. seen' i w.at (subst (λ j. seen_by s j w.at ≡ true) same (ap (λ y. seen_by s me y.at) (sym (just u w k)) ∙ inv.seen me t is_task)))
           (λ _ k. seen' i w.at (inv.seen i w k));
       stands = λ i w. at_with_both s.task me i (Some u) (λ y. y ≡ Some w → Stands rank s.spot next' s.prev s.marked status' w)
           (λ _ k. subst (Stands rank s.spot next' s.prev s.marked status') (just u w k) own) (λ d k. others i w d k);
@@ -310,7 +310,7 @@ module _ {K : Type 0} (rank : K → K → Ordering) (laws : Laws rank) (s : Sigh
         | inr their ↦ elim (hand_cases j p z) [ inl mine ↦ absurd (hand_not_x i p their mine.1) | inr also ↦ inv.hands_apart i j p their also ]
       ];
       rests = λ p w r. inv.rests p w (sym (status_else p (not_retired p w r)) ∙ r);
-      awaits = λ p w r i h. awaited_with rank s inv me t is-task u refl i (inv.awaits p w (sym (status_else p (not_retired p w r)) ∙ r) i h);
+      awaits = λ p w r i h. awaited_with rank s inv me t is_task u refl i (inv.awaits p w (sym (status_else p (not_retired p w r)) ∙ r) i h);
       next_seen = λ p w r i h. let q = sym (status_else p (not_retired p w r)) ∙ r in
           ap (λ y. is_chained (status' y) || (s.marked y && waits_for i (status' y))) (next_else p (λ same. never (sym b_chained ∙ ap (chained s) same ∙ ap is_chained q)))
           ∙ seen' i (s.next p) (inv.next_seen p w q i h);
@@ -326,7 +326,7 @@ module _ {K : Type 0} (rank : K → K → Ordering) (laws : Laws rank) (s : Sigh
         striker p d has = (
           has.0,
           at_with_both s.task me has.0 (Some u) (λ y. other_in is_striking y p ≡ true)
-              (λ same. absurd (d (eqb-true x p (and_parts (is_striking (rung t.phase)) (eqb x p) (ap (λ y. other_in is_striking y p) (sym is-task) ∙ ap (λ j. other_in is_striking (s.task j) p) same ∙ has.1)).1)))
+              (λ same. absurd (d (eqb-true x p (and_parts (is_striking (rung t.phase)) (eqb x p) (ap (λ y. other_in is_striking y p) (sym is_task) ∙ ap (λ j. other_in is_striking (s.task j) p) same ∙ has.1)).1)))
               (λ _. has.1),
         )
 
@@ -334,7 +334,7 @@ module _ {K : Type 0} (rank : K → K → Ordering) (laws : Laws rank) (s : Sigh
         hand p has = (
           has.0,
           at_with_both s.task me has.0 (Some u) (λ y. other_in is_handing y p ≡ true)
-              (λ same. never (sym has.1 ∙ ap (λ j. other_in is_handing (s.task j) p) (sym same) ∙ ap (λ y. other_in is_handing y p) is-task ∙ ap (λ y. is_handing (rung y) && eqb x p) e))
+              (λ same. never (sym has.1 ∙ ap (λ j. other_in is_handing (s.task j) p) (sym same) ∙ ap (λ y. other_in is_handing y p) is_task ∙ ap (λ y. is_handing (rung y) && eqb x p) e))
               (λ _. has.1),
         )
 

@@ -113,11 +113,11 @@ rests_not_in_hand w h = go (anyone w) h
     go true h = let z : ◌≡◌ {A = ℕ} 0 1 = cc in omega arith
     go false h = let z : ◌≡◌ {A = ℕ} 0 1 = cc in omega arith
 
-module _ {K : Type 0} (rank : K → K → Ordering) (laws : Laws rank) (s : Sight K) (inv : Inv rank s) (me : ℕ) (t : Task K) (is-task : s.task me ≡ Some t) (e : t.phase ≡ StrikeEnd)
+module _ {K : Type 0} (rank : K → K → Ordering) (laws : Laws rank) (s : Sight K) (inv : Inv rank s) (me : ℕ) (t : Task K) (is_task : s.task me ≡ Some t) (e : t.phase ≡ StrikeEnd)
     (within : t.other < s.size) (stationed : (j : ℕ) → is_some (s.task j) ≡ true → j < most_stations)
     (unawaited : (p : ℕ) (v : List Bool) → s.status p ≡ Retired v → get_or v me false ≡ true → ⊥) (w : List Bool) (others : Others me s w) where
   st : Stands rank s.spot s.next s.prev s.marked s.status t
-  st = inv.stands me t is-task
+  st = inv.stands me t is_task
 
   by : (f : ℕ → Bool) → f 14 ≡ true → f (rung t.phase) ≡ true
   by f h = ap (λ x. f (rung x)) e ∙ h
@@ -138,10 +138,10 @@ module _ {K : Type 0} (rank : K → K → Ordering) (laws : Laws rank) (s : Sigh
   b_chained = st.at_chained (by is_placed refl)
 
   b_not_high : b ≡ high → ⊥
-  b_not_high = at_not_high rank laws s inv me t is-task (by is_placed refl)
+  b_not_high = at_not_high rank laws s inv me t is_task (by is_placed refl)
 
   lock_b : s.lock b ≡ Some me
-  lock_b = holds_own_at rank laws s inv me t is-task (by holds_at refl)
+  lock_b = holds_own_at rank laws s inv me t is_task (by holds_at refl)
 
   abbrev status' : ℕ → Status
   status' = at_with s.status x (rests w)
@@ -183,12 +183,12 @@ module _ {K : Type 0} (rank : K → K → Ordering) (laws : Laws rank) (s : Sigh
 
   fails : (f : ℕ → Bool) → f 14 ≡ false → (i p : ℕ) → other_in f (task' i) p ≡ other_in f (s.task i) p
   fails f h i p = at_with_both (λ i. awaiting_task (s.task i)) me i None (λ y. other_in f y p ≡ other_in f (s.task i) p)
-      (λ same. sym (ap (λ j. other_in f (s.task j) p) (sym same) ∙ ap (λ y. other_in f y p) is-task ∙ ap (λ y. f (rung y) && eqb x p) e ∙ ap (λ c. c && eqb x p) h))
+      (λ same. sym (ap (λ j. other_in f (s.task j) p) (sym same) ∙ ap (λ y. other_in f y p) is_task ∙ ap (λ y. f (rung y) && eqb x p) e ∙ ap (λ c. c && eqb x p) h))
       (λ _. other_awaiting f (s.task i) p)
 
   holder' : (f : ℕ → Bool) → f 14 ≡ false → (p : ℕ) → holder_in f task' (lock' p) p ≡ holder_in f s.task (s.lock p) p
   holder' f h p = at_with_both s.lock b p None (λ l. holder_in f task' l p ≡ holder_in f s.task (s.lock p) p)
-      (λ same. sym (ap (λ l. holder_in f s.task l p) (ap s.lock (sym same) ∙ lock_b) ∙ ap (λ y. other_in f y p) is-task ∙ ap (λ y. f (rung y) && eqb x p) e ∙ ap (λ c. c && eqb x p) h))
+      (λ same. sym (ap (λ l. holder_in f s.task l p) (ap s.lock (sym same) ∙ lock_b) ∙ ap (λ y. other_in f y p) is_task ∙ ap (λ y. f (rung y) && eqb x p) e ∙ ap (λ c. c && eqb x p) h))
       (λ _. go (s.lock p))
     where
       go : (l : Option ℕ) → holder_in f task' l p ≡ holder_in f s.task l p
@@ -200,7 +200,7 @@ module _ {K : Type 0} (rank : K → K → Ordering) (laws : Laws rank) (s : Sigh
       let old = inv.locks i p in
       at_with_both (λ i. awaiting_task (s.task i)) me i None (λ y. locked_by i (lock' p) ≡ holds y p)
       (λ same. at_with_both s.lock b p None (λ l. locked_by i l ≡ false) (λ _. refl)
-      (λ d. old ∙ ap (λ j. holds (s.task j) p) (sym same) ∙ ap (λ y. holds y p) is-task
+      (λ d. old ∙ ap (λ j. holds (s.task j) p) (sym same) ∙ ap (λ y. holds y p) is_task
       ∙ ap (λ y. (holds_at (rung y) && eqb b p) || (holds_other (rung y) && eqb x p)) e ∙ ap (λ c. c || false) (ne_eqb b p d)))
       (λ d. at_with_both s.lock b p None (λ l. locked_by i l ≡ holds (awaiting_task (s.task i)) p)
       (λ same. sym (holds_awaiting (s.task i) p ∙ sym old ∙ ap (locked_by i) (ap s.lock (sym same) ∙ lock_b) ∙ ne_eqb me i d))
@@ -222,7 +222,7 @@ module _ {K : Type 0} (rank : K → K → Ordering) (laws : Laws rank) (s : Sigh
     other_marked = y.other_marked;
     spared = y.spared;
     in_hand = λ h. status_else v.other (λ same. d (inv.hands_apart me i x
-        (ap (λ a. other_in is_handing a x) is-task ∙ and_from _ _ (by is_handing refl) (eq-eqb x x refl))
+        (ap (λ a. other_in is_handing a x) is_task ∙ and_from _ _ (by is_handing refl) (eq-eqb x x refl))
         (ap (λ a. other_in is_handing a x) is ∙ and_from _ _ h (eq-eqb v.other x (sym same))))) ∙ y.in_hand h;
     in_hand_next = y.in_hand_next;
     in_hand_prev = y.in_hand_prev;
@@ -301,7 +301,7 @@ module _ {K : Type 0} (rank : K → K → Ordering) (laws : Laws rank) (s : Sigh
       hand p d has = (
         has.0,
         at_with_both (λ i. awaiting_task (s.task i)) me has.0 None (λ y. other_in is_handing y p ≡ true)
-            (λ same. absurd (d (eqb-true x p (and_parts (is_handing (rung t.phase)) (eqb x p) (ap (λ y. other_in is_handing y p) (sym is-task) ∙ ap (λ j. other_in is_handing (s.task j) p) same ∙ has.1)).1)))
+            (λ same. absurd (d (eqb-true x p (and_parts (is_handing (rung t.phase)) (eqb x p) (ap (λ y. other_in is_handing y p) (sym is_task) ∙ ap (λ j. other_in is_handing (s.task j) p) same ∙ has.1)).1)))
             (λ _. other_awaiting is_handing (s.task has.0) p ∙ has.1),
       )
 

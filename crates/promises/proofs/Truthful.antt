@@ -93,7 +93,7 @@ module _ {K : Type 0} (rank : K → K → Ordering) where
 
 -- The books at which the work t of station i was under way, b the newest of them.
 module _ {K : Type 0} (rank : K → K → Ordering) (laws : Laws rank) (i : ℕ) (b : Book K) (bs : List (Book K)) (here : Among b bs)
-    (inv-of : (σ : Book K) → Among σ bs → Inv rank (sight_of σ))
+    (inv_of : (σ : Book K) → Among σ bs → Inv rank (sight_of σ))
     (hind : (σ : Book K) → Among σ bs → (p : ℕ) → chained (sight_of σ) p ≡ true → Remembers i b bs σ p)
     (prevs : (σ : Book K) → Among σ bs → (p : ℕ) → chained (sight_of σ) p ≡ true → (p ≡ low → ⊥) → chained (sight_of σ) ((sight_of σ).prev p) ≡ true)
     (shows : (σ : Book K) → Among σ bs → ShowsKeys σ)
@@ -103,19 +103,19 @@ module _ {K : Type 0} (rank : K → K → Ordering) (laws : Laws rank) (i : ℕ)
   WasAbsent = (σ : Book K) × Among σ bs × (Holds t.key (keys σ) → ⊥)
 
   now : Inv rank (sight_of b)
-  now = inv-of b here
+  now = inv_of b here
 
   fit_in : (f : Phase) → t.phase ≡ f → fits t.work (group f) ≡ true
   fit_in f e = ap (λ g. fits t.work (group g)) (sym e) ∙ now.fit i t is
 
   on_now : (sight_of b).marked t.at ≡ false → chained (sight_of b) t.at ≡ true
-  on_now = seen_unmarked rank laws i b bs here inv-of hind prevs t.at (now.seen i t is)
+  on_now = seen_unmarked rank laws i b bs here inv_of hind prevs t.at (now.seen i t is)
 
   known_as : (f : Phase) (w : Work) → t.phase ≡ f → t.work ≡ w → Walked rank bs f w t.key t.at
   known_as f w e e' = subst (λ g. Walked rank bs g w t.key t.at) e (subst (λ v. Walked rank bs t.phase v t.key t.at) e' known)
 
   came_on_then : (w : Work) (m : Came rank bs w t.key t.at) → chained (sight_of m.book) t.at ≡ true
-  came_on_then w m = came_on rank laws i b bs here inv-of hind prevs w t.key t.at m
+  came_on_then w m = came_on rank laws i b bs here inv_of hind prevs w t.key t.at m
 
   came_spot : (w : Work) (m : Came rank bs w t.key t.at) → (sight_of m.book).spot t.at ≡ (sight_of b).spot t.at
   came_spot w m = sym (hind m.book m.among t.at (came_on_then w m)).spot
@@ -144,13 +144,13 @@ module _ {K : Type 0} (rank : K → K → Ordering) (laws : Laws rank) (i : ℕ)
   look_marked_by e m (inr x) = (
     x.last,
     x.among,
-    absent_marked rank laws x.last (inv-of x.last x.among) (shows x.last x.among) t.at t.key x.on x.marked
+    absent_marked rank laws x.last (inv_of x.last x.among) (shows x.last x.among) t.at t.key x.on x.marked
         (sym (hind x.last x.among t.at x.on).spot ∙ e),
   )
 
   look_marked : t.phase ≡ On → compared rank ((sight_of b).spot t.at) t.key ≡ Equal → (sight_of b).marked t.at ≡ true → WasAbsent
   look_marked f e m =
-      let was = either_known rank laws i b bs here inv-of hind prevs t.work t.key t.at (known_as On t.work f refl) in
+      let was = either_known rank laws i b bs here inv_of hind prevs t.work t.key t.at (known_as On t.work f refl) in
       look_marked_by (equal_is_exact rank laws ((sight_of b).spot t.at) t.key e) m (hind was.book was.among t.at was.on).fate
 
   look_no_by : before rank (exact t.key) ((sight_of b).spot t.at) ≡ true → LowKnown rank bs Look t.key t.at ⊎ Came rank bs Look t.key t.at → WasAbsent
@@ -160,7 +160,7 @@ module _ {K : Type 0} (rank : K → K → Ordering) (laws : Laws rank) (i : ℕ)
   look_no_by above (inr m) = (
     m.book,
     m.among,
-    absent_next rank laws m.book (inv-of m.book m.among) (shows m.book m.among) m.from t.key m.on m.low
+    absent_next rank laws m.book (inv_of m.book m.among) (shows m.book m.among) m.from t.key m.on m.low
         (ap (λ x. before rank (exact t.key) ((sight_of m.book).spot x)) m.leads ∙ ap (before rank (exact t.key)) (came_spot Look m) ∙ above),
   )
 
@@ -173,11 +173,11 @@ module _ {K : Type 0} (rank : K → K → Ordering) (laws : Laws rank) (i : ℕ)
   Told w a = (σ : Book K) × Among σ bs × TrueOf rank w t.key a (keys σ)
 
   after_missing : t.at ≡ high → LowKnown rank bs After t.key t.at ⊎ Came rank bs After t.key t.at → Told After Missing
-  after_missing e (inl m) = absurd (low_not_high rank (sight_of m.book) (inv-of m.book m.among) After t.key t.at m.low e)
+  after_missing e (inl m) = absurd (low_not_high rank (sight_of m.book) (inv_of m.book m.among) After t.key t.at m.low e)
   after_missing e (inr m) = (
     m.book,
     m.among,
-    none_above rank laws m.book (inv-of m.book m.among) (shows m.book m.among) m.from t.key m.on
+    none_above rank laws m.book (inv_of m.book m.among) (shows m.book m.among) m.from t.key m.on
         (not-true (before rank (exact t.key) ((sight_of m.book).spot m.from)) m.low) (m.leads ∙ e),
   )
 
@@ -189,7 +189,7 @@ module _ {K : Type 0} (rank : K → K → Ordering) (laws : Laws rank) (i : ℕ)
   after_found a above unmarked e (inr m) = (
     m.book,
     m.among,
-    smallest_above rank laws m.book (inv-of m.book m.among) (shows m.book m.among) m.from t.at t.key a m.on
+    smallest_above rank laws m.book (inv_of m.book m.among) (shows m.book m.among) m.from t.at t.key a m.on
         (not-true (before rank (exact t.key) ((sight_of m.book).spot m.from)) m.low) m.leads (came_on_then After m) (unmarked_then After m unmarked)
         (came_spot After m ∙ e) (ap (before rank (exact t.key)) (came_spot After m) ∙ above),
   )
@@ -198,7 +198,7 @@ module _ {K : Type 0} (rank : K → K → Ordering) (laws : Laws rank) (i : ℕ)
 
   first_found : (a : K) → (2 ≤ t.at → (sight_of b).spot t.at ≡ exact a) → (sight_of b).marked t.at ≡ false → Came rank bs FirstWork t.key t.at × (t.at ≡ high → ⊥) → Told FirstWork (Found a)
   first_found a e unmarked (m, not_high) =
-      let inv = inv-of m.book m.among in
+      let inv = inv_of m.book m.among in
       let bottomed = low_is_bottom rank ((sight_of m.book).spot m.from) t.key m.low in
       let not_low : t.at ≡ low → ⊥ = λ h. true≢false (sym (inv.rises m.from m.on (low_not_high rank (sight_of m.book) inv FirstWork t.key m.from m.low))
       ∙ ap (λ x. before rank ((sight_of m.book).spot m.from) ((sight_of m.book).spot x)) (m.leads ∙ h)
@@ -223,63 +223,63 @@ module _ {K : Type 0} (rank : K → K → Ordering) (laws : Laws rank) (i : ℕ)
       (greater_is_after rank laws ((sight_of b).spot ((sight_of b).next t.at)) t.key e)
 
   pub ends_true : (a : Answer K) → (IsChangeDone t.work a → ⊥) → {o : Outcome K} {m : Sight K} → Way rank (sight_of b) i t o m → o ≡ Ends a → AtSome rank (TrueOf rank t.work t.key a) bs
-  ends_true a open-end (Way.strays x0 x1 x2) e = ends_not rank x1 refl e
-  ends_true a open-end (Way.enters x0 x1 x2 x3 x4) e = ends_not rank x3 refl e
-  ends_true a open-end (Way.down_here x0 x1 x2 x3) e = ends_not rank x2 refl e
-  ends_true a open-end (Way.down_lost x0 x1 x2 x3) e = ends_not rank x2 refl e
-  ends_true a open-end (Way.down_last x0 x1 x2 x3 x4 x5 x6) e = ends_not rank x5 refl e
-  ends_true a open-end (Way.down_on x0 x1 x2 x3 x4 x5 x6) e = ends_not rank x5 refl e
-  ends_true a open-end (Way.check_marked x0 x1 x2 x3) e = ends_not rank x2 refl e
-  ends_true a open-end (Way.check_unmarked x0 x1 x2 x3) e = ends_not rank x2 refl e
-  ends_true a open-end (Way.back_look_yes x0 x1 x2 x3 x4 x5) e = tells b here Look x1 x4 e (look_yes x2 x3)
-  ends_true a open-end (Way.back_look_marked x0 x1 x2 x3 x4 x5) e = ends_not rank x4 refl e
-  ends_true a open-end (Way.back_look_above x0 x1 x2 x3 x4) e = ends_not rank x3 refl e
-  ends_true a open-end (Way.back_look_on x0 x1 x2 x3 x4) e = ends_not rank x3 refl e
-  ends_true a open-end (Way.back_after_above x0 x1 x2 x3 x4) e = ends_not rank x3 refl e
-  ends_true a open-end (Way.back_after_on x0 x1 x2 x3 x4) e = ends_not rank x3 refl e
-  ends_true a open-end (Way.back_change_above x0 x1 x2 x3 x4) e = ends_not rank x3 refl e
-  ends_true a open-end (Way.back_change_seek x0 x1 x2 x3 x4) e = ends_not rank x3 refl e
-  ends_true a open-end (Way.on_look_next x0 x1 x2 x3 x4) e = ends_not rank x3 refl e
-  ends_true a open-end (Way.on_look_marked x0 x1 x2 x3 x4 x5) e = let w = look_marked x0 x2 x3 in tells w.0 w.1 Look x1 x4 e w.2
-  ends_true a open-end (Way.on_look_yes x0 x1 x2 x3 x4 x5) e = tells b here Look x1 x4 e (look_yes x2 x3)
-  ends_true a open-end (Way.on_look_no x0 x1 x2 x3 x4) e = let w = look_no x0 x1 x2 in tells w.0 w.1 Look x1 x3 e w.2
-  ends_true a open-end (Way.on_after_next x0 x1 x2 x3 x4) e = ends_not rank x3 refl e
-  ends_true a open-end (Way.on_after_missing x0 x1 x2 x3 x4) e = let w = after_missing x2 (known_as On After x0 x1) in tells w.0 w.1 After x1 x3 e w.2
-  ends_true a open-end (Way.on_after_marked x0 x1 x2 x3 x4 x5) e = ends_not rank x4 refl e
-  ends_true a open-end (Way.on_after_found x0 x1 x2 x3 x4 x5 x6 x7) e = let w = after_found x4 (greater_is_after rank laws ((sight_of b).spot t.at) t.key x2) x3 x5 (known_as On After x0 x1) in tells w.0 w.1 After x1 x6 e w.2
-  ends_true a open-end (Way.seek_next x0 x1 x2 x3 x4) e = ends_not rank x3 refl e
-  ends_true a open-end (Way.seek_lock x0 x1 x2 x3 x4) e = ends_not rank x3 refl e
-  ends_true a open-end (Way.lock_waits x0 x1 x2 x3) e = ends_not rank x2 refl e
-  ends_true a open-end (Way.lock_taken x0 x1 x2 x3 x4) e = ends_not rank x3 refl e
-  ends_true a open-end (Way.valid_again x0 x1 x2 x3 x4) e = ends_not rank x3 refl e
-  ends_true a open-end (Way.valid_put_no x0 x1 x2 x3 x4 x5) e = tells b here Put x1 x4 e (put_no x0 x2 x3)
-  ends_true a open-end (Way.valid_take x0 x1 x2 x3 x4 x5) e = ends_not rank x4 refl e
-  ends_true a open-end (Way.valid_strike_no x0 x1 x2 x3 x4 x5) e = tells b here Strike x1 x4 e (strike_no x0 x2 x3)
-  ends_true a open-end (Way.valid_victim x0 x1 x2 x3 x4 x5) e = ends_not rank x4 refl e
-  ends_true a open-end (Way.take_none x0 x1 x2 x3) e = tells b here Put (fit_4 t.work (fit_in Take x0)) x2 e tt
-  ends_true a open-end (Way.take_some x0 x1 x2 x3 x4 x5 x6) e = ends_not rank x5 refl e
-  ends_true a open-end (Way.links x0 x1 x2) e = ends_not rank x1 refl e
-  ends_true a open-end (Way.links_back x0 x1 x2 x3) e = ends_not rank x2 refl e
-  ends_true a open-end (Way.attaches x0 x1 x2 x3 x4 x5) e = ends_not rank x4 refl e
-  ends_true a open-end (Way.releases_new x0 x1 x2) e = ends_not rank x1 refl e
-  ends_true a open-end (Way.put_ends x0 x1 x2) e = absurd (open-end (ap is_change (fit_4 t.work (fit_in PutEnd x0)), (cc)))
-  ends_true a open-end (Way.victim_waits x0 x1 x2 x3) e = ends_not rank x2 refl e
-  ends_true a open-end (Way.victim_taken x0 x1 x2 x3 x4) e = ends_not rank x3 refl e
-  ends_true a open-end (Way.marks x0 x1 x2) e = ends_not rank x1 refl e
-  ends_true a open-end (Way.unlinks_back x0 x1 x2 x3) e = ends_not rank x2 refl e
-  ends_true a open-end (Way.unlinks x0 x1 x2) e = ends_not rank x1 refl e
-  ends_true a open-end (Way.detaches x0 x1 x2 x3 x4) e = ends_not rank x3 refl e
-  ends_true a open-end (Way.releases_victim x0 x1 x2) e = ends_not rank x1 refl e
-  ends_true a open-end (Way.strike_ends x0 x1 x2 x3) e = ends_not rank x2 refl e
-  ends_true a open-end (Way.first_missing x0 x1 x2 x3) e = tells b here FirstWork (fit_2 t.work (fit_in First x0)) x2 e (none_at_all rank laws b now (shows b here) x1)
-  ends_true a open-end (Way.first_on_next x0 x1 x2 x3) e = ends_not rank x2 refl e
-  ends_true a open-end (Way.first_marked x0 x1 x2 x3) e = ends_not rank x2 refl e
-  ends_true a open-end (Way.first_found x0 x1 x2 x3 x4 x5) e = let w = first_found x2 x3 x1 (known_as FirstNext FirstWork x0 (fit_2 t.work (fit_in FirstNext x0))) in tells w.0 w.1 FirstWork (fit_2 t.work (fit_in FirstNext x0)) x4 e w.2
+  ends_true a open_end (Way.strays x0 x1 x2) e = ends_not rank x1 refl e
+  ends_true a open_end (Way.enters x0 x1 x2 x3 x4) e = ends_not rank x3 refl e
+  ends_true a open_end (Way.down_here x0 x1 x2 x3) e = ends_not rank x2 refl e
+  ends_true a open_end (Way.down_lost x0 x1 x2 x3) e = ends_not rank x2 refl e
+  ends_true a open_end (Way.down_last x0 x1 x2 x3 x4 x5 x6) e = ends_not rank x5 refl e
+  ends_true a open_end (Way.down_on x0 x1 x2 x3 x4 x5 x6) e = ends_not rank x5 refl e
+  ends_true a open_end (Way.check_marked x0 x1 x2 x3) e = ends_not rank x2 refl e
+  ends_true a open_end (Way.check_unmarked x0 x1 x2 x3) e = ends_not rank x2 refl e
+  ends_true a open_end (Way.back_look_yes x0 x1 x2 x3 x4 x5) e = tells b here Look x1 x4 e (look_yes x2 x3)
+  ends_true a open_end (Way.back_look_marked x0 x1 x2 x3 x4 x5) e = ends_not rank x4 refl e
+  ends_true a open_end (Way.back_look_above x0 x1 x2 x3 x4) e = ends_not rank x3 refl e
+  ends_true a open_end (Way.back_look_on x0 x1 x2 x3 x4) e = ends_not rank x3 refl e
+  ends_true a open_end (Way.back_after_above x0 x1 x2 x3 x4) e = ends_not rank x3 refl e
+  ends_true a open_end (Way.back_after_on x0 x1 x2 x3 x4) e = ends_not rank x3 refl e
+  ends_true a open_end (Way.back_change_above x0 x1 x2 x3 x4) e = ends_not rank x3 refl e
+  ends_true a open_end (Way.back_change_seek x0 x1 x2 x3 x4) e = ends_not rank x3 refl e
+  ends_true a open_end (Way.on_look_next x0 x1 x2 x3 x4) e = ends_not rank x3 refl e
+  ends_true a open_end (Way.on_look_marked x0 x1 x2 x3 x4 x5) e = let w = look_marked x0 x2 x3 in tells w.0 w.1 Look x1 x4 e w.2
+  ends_true a open_end (Way.on_look_yes x0 x1 x2 x3 x4 x5) e = tells b here Look x1 x4 e (look_yes x2 x3)
+  ends_true a open_end (Way.on_look_no x0 x1 x2 x3 x4) e = let w = look_no x0 x1 x2 in tells w.0 w.1 Look x1 x3 e w.2
+  ends_true a open_end (Way.on_after_next x0 x1 x2 x3 x4) e = ends_not rank x3 refl e
+  ends_true a open_end (Way.on_after_missing x0 x1 x2 x3 x4) e = let w = after_missing x2 (known_as On After x0 x1) in tells w.0 w.1 After x1 x3 e w.2
+  ends_true a open_end (Way.on_after_marked x0 x1 x2 x3 x4 x5) e = ends_not rank x4 refl e
+  ends_true a open_end (Way.on_after_found x0 x1 x2 x3 x4 x5 x6 x7) e = let w = after_found x4 (greater_is_after rank laws ((sight_of b).spot t.at) t.key x2) x3 x5 (known_as On After x0 x1) in tells w.0 w.1 After x1 x6 e w.2
+  ends_true a open_end (Way.seek_next x0 x1 x2 x3 x4) e = ends_not rank x3 refl e
+  ends_true a open_end (Way.seek_lock x0 x1 x2 x3 x4) e = ends_not rank x3 refl e
+  ends_true a open_end (Way.lock_waits x0 x1 x2 x3) e = ends_not rank x2 refl e
+  ends_true a open_end (Way.lock_taken x0 x1 x2 x3 x4) e = ends_not rank x3 refl e
+  ends_true a open_end (Way.valid_again x0 x1 x2 x3 x4) e = ends_not rank x3 refl e
+  ends_true a open_end (Way.valid_put_no x0 x1 x2 x3 x4 x5) e = tells b here Put x1 x4 e (put_no x0 x2 x3)
+  ends_true a open_end (Way.valid_take x0 x1 x2 x3 x4 x5) e = ends_not rank x4 refl e
+  ends_true a open_end (Way.valid_strike_no x0 x1 x2 x3 x4 x5) e = tells b here Strike x1 x4 e (strike_no x0 x2 x3)
+  ends_true a open_end (Way.valid_victim x0 x1 x2 x3 x4 x5) e = ends_not rank x4 refl e
+  ends_true a open_end (Way.take_none x0 x1 x2 x3) e = tells b here Put (fit_4 t.work (fit_in Take x0)) x2 e tt
+  ends_true a open_end (Way.take_some x0 x1 x2 x3 x4 x5 x6) e = ends_not rank x5 refl e
+  ends_true a open_end (Way.links x0 x1 x2) e = ends_not rank x1 refl e
+  ends_true a open_end (Way.links_back x0 x1 x2 x3) e = ends_not rank x2 refl e
+  ends_true a open_end (Way.attaches x0 x1 x2 x3 x4 x5) e = ends_not rank x4 refl e
+  ends_true a open_end (Way.releases_new x0 x1 x2) e = ends_not rank x1 refl e
+  ends_true a open_end (Way.put_ends x0 x1 x2) e = absurd (open_end (ap is_change (fit_4 t.work (fit_in PutEnd x0)), (cc)))
+  ends_true a open_end (Way.victim_waits x0 x1 x2 x3) e = ends_not rank x2 refl e
+  ends_true a open_end (Way.victim_taken x0 x1 x2 x3 x4) e = ends_not rank x3 refl e
+  ends_true a open_end (Way.marks x0 x1 x2) e = ends_not rank x1 refl e
+  ends_true a open_end (Way.unlinks_back x0 x1 x2 x3) e = ends_not rank x2 refl e
+  ends_true a open_end (Way.unlinks x0 x1 x2) e = ends_not rank x1 refl e
+  ends_true a open_end (Way.detaches x0 x1 x2 x3 x4) e = ends_not rank x3 refl e
+  ends_true a open_end (Way.releases_victim x0 x1 x2) e = ends_not rank x1 refl e
+  ends_true a open_end (Way.strike_ends x0 x1 x2 x3) e = ends_not rank x2 refl e
+  ends_true a open_end (Way.first_missing x0 x1 x2 x3) e = tells b here FirstWork (fit_2 t.work (fit_in First x0)) x2 e (none_at_all rank laws b now (shows b here) x1)
+  ends_true a open_end (Way.first_on_next x0 x1 x2 x3) e = ends_not rank x2 refl e
+  ends_true a open_end (Way.first_marked x0 x1 x2 x3) e = ends_not rank x2 refl e
+  ends_true a open_end (Way.first_found x0 x1 x2 x3 x4 x5) e = let w = first_found x2 x3 x1 (known_as FirstNext FirstWork x0 (fit_2 t.work (fit_in FirstNext x0))) in tells w.0 w.1 FirstWork (fit_2 t.work (fit_in FirstNext x0)) x4 e w.2
 
 module _ {K : Type 0} (rank : K → K → Ordering) (laws : Laws rank) (inv : (b : Book K) → Run rank b → Inv rank (sight_of b))
     (prevs : (b : Book K) → Run rank b → (p : ℕ) → chained (sight_of b) p ≡ true → (p ≡ low → ⊥) → chained (sight_of b) ((sight_of b).prev p) ≡ true)
     (shows : (b : Book K) → Run rank b → ShowsKeys b) where
-  module _ (b : Book K) (r : Run rank b) (i : ℕ) (t : Task K) (is : work_at b i ≡ Some t) (a : Answer K) (open-end : IsChangeDone t.work a → ⊥)
+  module _ (b : Book K) (r : Run rank b) (i : ℕ) (t : Task K) (is : work_at b i ≡ Some t) (a : Answer K) (open_end : IsChangeDone t.work a → ⊥)
       (n : ℕ) (o : Outcome K) (m s' : Sight K) (way : Way rank (sight_of b) i t o m) where
     settled_true : Settling m i t o (Ended a n) s' → AtSome rank (TrueOf rank t.work t.key a) (since rank r i)
     settled_true (Settling.goes u oc ac se) = let z : ◌≡◌ {A = ℕ} 0 1 = cc in absurd (omega arith)
@@ -287,15 +287,15 @@ module _ {K : Type 0} (rank : K → K → Ordering) (laws : Laws rank) (inv : (b
     settled_true (Settling.ends x oc ac se) =
         let works = ap is_some is in
         ends_true rank laws i b (since rank r i) (now_among rank r i works) (λ σ w. inv σ (since_runs rank r i σ w)) (λ σ w p on. hindsight rank inv r i works σ p on w)
-        (λ σ w. prevs σ (since_runs rank r i σ w)) (λ σ w. shows σ (since_runs rank r i σ w)) t is (walked rank laws inv prevs r i t is) a open-end way
+        (λ σ w. prevs σ (since_runs rank r i σ w)) (λ σ w. shows σ (since_runs rank r i σ w)) t is (walked rank laws inv prevs r i t is) a open_end way
         (let same : x ≡ a = cc in oc ∙ ap Ends same)
     settled_true (Settling.retires q oc ac w others se) =
         let phase = retires_in rank (way_touches way) q oc in
-        absurd (open-end (ap is_change (fit_5 t.work (ap (λ g. fits t.work (group g)) (sym phase) ∙ (inv b r).fit i t is)), (cc)))
+        absurd (open_end (ap is_change (fit_5 t.work (ap (λ g. fits t.work (group g)) (sym phase) ∙ (inv b r).fit i t is)), (cc)))
 
   pub answers_are_true : AnswersAreTrue rank
-  answers_are_true b r i t a n b' ended open-end =
+  answers_are_true b r i t a n b' ended open_end =
       let made = accepted_step_made rank i b.places b.stations b.guide (Ended a n) b'.places b'.stations b'.guide ended.1 in
       let same : made.task ≡ t = some_injects made.under_way ended.0 in
       inr (subst (λ u. AtSome rank (TrueOf rank u.work u.key a) (since rank r i)) same
-      (settled_true b r i made.task made.under_way a (subst (λ u. IsChangeDone u.work a → ⊥) (sym same) open-end) n made.outcome made.mid (sight_of b') made.way made.settling))
+      (settled_true b r i made.task made.under_way a (subst (λ u. IsChangeDone u.work a → ⊥) (sym same) open_end) n made.outcome made.mid (sight_of b') made.way made.settling))

@@ -49,10 +49,10 @@ module _ {K A : Type 0} (k : K) (ps : List (Place K)) where
   finds_two p q f h l = finds p (λ x. needing k ps (q x) (λ y. Ok (f x y))) h ∙ finds (q (place k ps p)) (λ y. Ok (f (place k ps p) y)) l
 
 -- A rule that was accepted, and whether it left the guide alone.
-pub record Turned {K : Type 0} (m : Meaning) (may-change : Bool) (told : Result (Turn K) Damage) : Type 0 where
+pub record Turned {K : Type 0} (m : Meaning) (may_change : Bool) (told : Result (Turn K) Damage) : Type 0 where
   pub turn : Turn K
   pub is : told ≡ Ok turn
-  pub keeps : may-change ≡ false → turn.meaning ≡ m
+  pub keeps : may_change ≡ false → turn.meaning ≡ m
 
 module _ {K : Type 0} (ps : List (Place K)) (m : Meaning) (b : Bool) where
   read_turned : (o : Outcome K) (told : Result (Outcome K) Damage) → told ≡ Ok o → Turned m b (reads ps m told)

@@ -143,7 +143,7 @@ module _ {K : Type 0} where
 
 -- The books at which a work of station i was under way, b the newest of them.
 module _ {K : Type 0} (rank : K → K → Ordering) (laws : Laws rank) (i : ℕ) (b : Book K) (bs : List (Book K)) (here : Among b bs)
-    (inv-of : (σ : Book K) → Among σ bs → Inv rank (sight_of σ))
+    (inv_of : (σ : Book K) → Among σ bs → Inv rank (sight_of σ))
     (hind : (σ : Book K) → Among σ bs → (p : ℕ) → chained (sight_of σ) p ≡ true → Remembers i b bs σ p)
     (prevs : (σ : Book K) → Among σ bs → (p : ℕ) → chained (sight_of σ) p ≡ true → (p ≡ low → ⊥) → chained (sight_of σ) ((sight_of σ).prev p) ≡ true) where
   -- A moment at which p was on the chain with the key and the links that it has now.
@@ -190,7 +190,7 @@ module _ {K : Type 0} (rank : K → K → Ordering) (laws : Laws rank) (i : ℕ)
 
   pub came_on : (work : Work) (k : K) (q : ℕ) (m : Came rank bs work k q) → chained (sight_of m.book) q ≡ true
   came_on work k q m =
-      let inv = inv-of m.book m.among in
+      let inv = inv_of m.book m.among in
       ap (chained (sight_of m.book)) (sym m.leads) ∙ inv.leads m.from m.on (low_not_high rank (sight_of m.book) inv work k m.from m.low)
 
   pub either_known : (work : Work) (k : K) (p : ℕ) → LowKnown rank bs work k p ⊎ Came rank bs work k p → Known bs p
@@ -198,7 +198,7 @@ module _ {K : Type 0} (rank : K → K → Ordering) (laws : Laws rank) (i : ℕ)
   either_known work k p (inr m) = record { book = m.book; among = m.among; on = came_on work k p m }
 
   not_less_not_low : (k : K) (p : ℕ) → (compared rank ((sight_of b).spot p) k ≡ Less → ⊥) → p ≡ low → ⊥
-  not_less_not_low k p h e = h (ap (λ q. compared rank ((sight_of b).spot q) k) e ∙ ap (λ x. compared rank x k) (inv-of b here).low_spot)
+  not_less_not_low k p h e = h (ap (λ q. compared rank ((sight_of b).spot q) k) e ∙ ap (λ x. compared rank x k) (inv_of b here).low_spot)
 
   equal_not_less : {o : Ordering} → o ≡ Equal → o ≡ Less → ⊥
   equal_not_less e h = let z : ◌≡◌ {A = ℕ} 0 1 = cc in omega arith
@@ -252,59 +252,59 @@ module _ {K : Type 0} (rank : K → K → Ordering) (laws : Laws rank) (i : ℕ)
     -- A first begins at Low. The fit of the work and its phase tells that it is a first.
     first_next : t.work ≡ FirstWork → Came rank bs t.work t.key ((sight_of b).next low)
     first_next e =
-        came_next t.work t.key low (known_now low (ap is_chained (inv-of b here).low_chained))
-        (ap (λ w. low_for rank w ((sight_of b).spot low) t.key) e ∙ ap is_bottom (inv-of b here).low_spot)
+        came_next t.work t.key low (known_now low (ap is_chained (inv_of b here).low_chained))
+        (ap (λ w. low_for rank w ((sight_of b).spot low) t.key) e ∙ ap is_bottom (inv_of b here).low_spot)
 
-    pub walks : (is-first : t.phase ≡ First → t.work ≡ FirstWork) {o : Outcome K} {m : Sight K} → Way rank (sight_of b) i t o m → (u : Task K) → o ≡ Goes u → Walks u
-    walks is-first (Way.strays x0 x1 x2) u e = goes_on x1 e (walked_first rank bs t.work t.work t.key t.at)
-    walks is-first (Way.enters x0 x1 x2 x3 x4) u e = goes_on x3 e tt
-    walks is-first (Way.down_here x0 x1 x2 x3) u e = goes_on x2 e tt
-    walks is-first (Way.down_lost x0 x1 x2 x3) u e = goes_on x2 e tt
-    walks is-first (Way.down_last x0 x1 x2 x3 x4 x5 x6) u e = goes_on x5 e tt
-    walks is-first (Way.down_on x0 x1 x2 x3 x4 x5 x6) u e = goes_on x5 e (stay_in Down x2 x0 tt)
-    walks is-first (Way.check_marked x0 x1 x2 x3) u e = goes_on x2 e (known_now low (ap is_chained (inv-of b here).low_chained))
-    walks is-first (Way.check_unmarked x0 x1 x2 x3) u e = goes_on x2 e (known_now t.at (seen_unmarked t.at seen x1))
-    walks is-first (Way.back_look_yes x0 x1 x2 x3 x4 x5) u e = goes_not x4 refl e
-    walks is-first (Way.back_look_marked x0 x1 x2 x3 x4 x5) u e = goes_on x4 e (back_to x0 (equal_not_less x2))
-    walks is-first (Way.back_look_above x0 x1 x2 x3 x4) u e = goes_on x3 e (back_to x0 (greater_not_less x2))
-    walks is-first (Way.back_look_on x0 x1 x2 x3 x4) u e = goes_on x3 e (turns_on x0 (low_here Look x1 (less_is_before rank laws _ _ x2)))
-    walks is-first (Way.back_after_above x0 x1 x2 x3 x4) u e = goes_on x3 e (back_to x0 (greater_not_less x2))
-    walks is-first (Way.back_after_on x0 x1 x2 x3 x4) u e = goes_on x3 e (turns_on x0 (low_here After x1 (not_above _ _ x2)))
-    walks is-first (Way.back_change_above x0 x1 x2 x3 x4) u e = goes_on x3 e (back_to x0 (up_not_less x2))
-    walks is-first (Way.back_change_seek x0 x1 x2 x3 x4) u e = goes_on x3 e tt
-    walks is-first (Way.on_look_next x0 x1 x2 x3 x4) u e = goes_on x3 e (goes_next x0 (low_here Look x1 (less_is_before rank laws _ _ x2)))
-    walks is-first (Way.on_look_marked x0 x1 x2 x3 x4 x5) u e = goes_not x4 refl e
-    walks is-first (Way.on_look_yes x0 x1 x2 x3 x4 x5) u e = goes_not x4 refl e
-    walks is-first (Way.on_look_no x0 x1 x2 x3 x4) u e = goes_not x3 refl e
-    walks is-first (Way.on_after_next x0 x1 x2 x3 x4) u e = goes_on x3 e (goes_next x0 (low_here After x1 (not_above _ _ x2)))
-    walks is-first (Way.on_after_missing x0 x1 x2 x3 x4) u e = goes_not x3 refl e
-    walks is-first (Way.on_after_marked x0 x1 x2 x3 x4 x5) u e = goes_on x4 e tt
-    walks is-first (Way.on_after_found x0 x1 x2 x3 x4 x5 x6 x7) u e = goes_not x6 refl e
-    walks is-first (Way.seek_next x0 x1 x2 x3 x4) u e = goes_on x3 e (stay_in Seek ((sight_of b).next t.at) x0 tt)
-    walks is-first (Way.seek_lock x0 x1 x2 x3 x4) u e = goes_on x3 e tt
-    walks is-first (Way.lock_waits x0 x1 x2 x3) u e = goes_not x2 refl e
-    walks is-first (Way.lock_taken x0 x1 x2 x3 x4) u e = goes_on x3 e tt
-    walks is-first (Way.valid_again x0 x1 x2 x3 x4) u e = goes_on x3 e tt
-    walks is-first (Way.valid_put_no x0 x1 x2 x3 x4 x5) u e = goes_not x4 refl e
-    walks is-first (Way.valid_take x0 x1 x2 x3 x4 x5) u e = goes_on x4 e tt
-    walks is-first (Way.valid_strike_no x0 x1 x2 x3 x4 x5) u e = goes_not x4 refl e
-    walks is-first (Way.valid_victim x0 x1 x2 x3 x4 x5) u e = goes_on x4 e tt
-    walks is-first (Way.take_none x0 x1 x2 x3) u e = goes_not x2 refl e
-    walks is-first (Way.take_some x0 x1 x2 x3 x4 x5 x6) u e = goes_on x5 e tt
-    walks is-first (Way.links x0 x1 x2) u e = goes_on x1 e tt
-    walks is-first (Way.links_back x0 x1 x2 x3) u e = goes_on x2 e tt
-    walks is-first (Way.attaches x0 x1 x2 x3 x4 x5) u e = goes_on x4 e tt
-    walks is-first (Way.releases_new x0 x1 x2) u e = goes_on x1 e tt
-    walks is-first (Way.put_ends x0 x1 x2) u e = goes_not x1 refl e
-    walks is-first (Way.victim_waits x0 x1 x2 x3) u e = goes_not x2 refl e
-    walks is-first (Way.victim_taken x0 x1 x2 x3 x4) u e = goes_on x3 e tt
-    walks is-first (Way.marks x0 x1 x2) u e = goes_on x1 e tt
-    walks is-first (Way.unlinks_back x0 x1 x2 x3) u e = goes_on x2 e tt
-    walks is-first (Way.unlinks x0 x1 x2) u e = goes_on x1 e tt
-    walks is-first (Way.detaches x0 x1 x2 x3 x4) u e = goes_on x3 e tt
-    walks is-first (Way.releases_victim x0 x1 x2) u e = goes_on x1 e tt
-    walks is-first (Way.strike_ends x0 x1 x2 x3) u e = goes_not x2 refl e
-    walks is-first (Way.first_missing x0 x1 x2 x3) u e = goes_not x2 refl e
-    walks is-first (Way.first_on_next x0 x1 x2 x3) u e = goes_on x2 e (first_next (is-first x0), x1)
-    walks is-first (Way.first_marked x0 x1 x2 x3) u e = goes_on x2 e tt
-    walks is-first (Way.first_found x0 x1 x2 x3 x4 x5) u e = goes_not x4 refl e
+    pub walks : (is_first : t.phase ≡ First → t.work ≡ FirstWork) {o : Outcome K} {m : Sight K} → Way rank (sight_of b) i t o m → (u : Task K) → o ≡ Goes u → Walks u
+    walks is_first (Way.strays x0 x1 x2) u e = goes_on x1 e (walked_first rank bs t.work t.work t.key t.at)
+    walks is_first (Way.enters x0 x1 x2 x3 x4) u e = goes_on x3 e tt
+    walks is_first (Way.down_here x0 x1 x2 x3) u e = goes_on x2 e tt
+    walks is_first (Way.down_lost x0 x1 x2 x3) u e = goes_on x2 e tt
+    walks is_first (Way.down_last x0 x1 x2 x3 x4 x5 x6) u e = goes_on x5 e tt
+    walks is_first (Way.down_on x0 x1 x2 x3 x4 x5 x6) u e = goes_on x5 e (stay_in Down x2 x0 tt)
+    walks is_first (Way.check_marked x0 x1 x2 x3) u e = goes_on x2 e (known_now low (ap is_chained (inv_of b here).low_chained))
+    walks is_first (Way.check_unmarked x0 x1 x2 x3) u e = goes_on x2 e (known_now t.at (seen_unmarked t.at seen x1))
+    walks is_first (Way.back_look_yes x0 x1 x2 x3 x4 x5) u e = goes_not x4 refl e
+    walks is_first (Way.back_look_marked x0 x1 x2 x3 x4 x5) u e = goes_on x4 e (back_to x0 (equal_not_less x2))
+    walks is_first (Way.back_look_above x0 x1 x2 x3 x4) u e = goes_on x3 e (back_to x0 (greater_not_less x2))
+    walks is_first (Way.back_look_on x0 x1 x2 x3 x4) u e = goes_on x3 e (turns_on x0 (low_here Look x1 (less_is_before rank laws _ _ x2)))
+    walks is_first (Way.back_after_above x0 x1 x2 x3 x4) u e = goes_on x3 e (back_to x0 (greater_not_less x2))
+    walks is_first (Way.back_after_on x0 x1 x2 x3 x4) u e = goes_on x3 e (turns_on x0 (low_here After x1 (not_above _ _ x2)))
+    walks is_first (Way.back_change_above x0 x1 x2 x3 x4) u e = goes_on x3 e (back_to x0 (up_not_less x2))
+    walks is_first (Way.back_change_seek x0 x1 x2 x3 x4) u e = goes_on x3 e tt
+    walks is_first (Way.on_look_next x0 x1 x2 x3 x4) u e = goes_on x3 e (goes_next x0 (low_here Look x1 (less_is_before rank laws _ _ x2)))
+    walks is_first (Way.on_look_marked x0 x1 x2 x3 x4 x5) u e = goes_not x4 refl e
+    walks is_first (Way.on_look_yes x0 x1 x2 x3 x4 x5) u e = goes_not x4 refl e
+    walks is_first (Way.on_look_no x0 x1 x2 x3 x4) u e = goes_not x3 refl e
+    walks is_first (Way.on_after_next x0 x1 x2 x3 x4) u e = goes_on x3 e (goes_next x0 (low_here After x1 (not_above _ _ x2)))
+    walks is_first (Way.on_after_missing x0 x1 x2 x3 x4) u e = goes_not x3 refl e
+    walks is_first (Way.on_after_marked x0 x1 x2 x3 x4 x5) u e = goes_on x4 e tt
+    walks is_first (Way.on_after_found x0 x1 x2 x3 x4 x5 x6 x7) u e = goes_not x6 refl e
+    walks is_first (Way.seek_next x0 x1 x2 x3 x4) u e = goes_on x3 e (stay_in Seek ((sight_of b).next t.at) x0 tt)
+    walks is_first (Way.seek_lock x0 x1 x2 x3 x4) u e = goes_on x3 e tt
+    walks is_first (Way.lock_waits x0 x1 x2 x3) u e = goes_not x2 refl e
+    walks is_first (Way.lock_taken x0 x1 x2 x3 x4) u e = goes_on x3 e tt
+    walks is_first (Way.valid_again x0 x1 x2 x3 x4) u e = goes_on x3 e tt
+    walks is_first (Way.valid_put_no x0 x1 x2 x3 x4 x5) u e = goes_not x4 refl e
+    walks is_first (Way.valid_take x0 x1 x2 x3 x4 x5) u e = goes_on x4 e tt
+    walks is_first (Way.valid_strike_no x0 x1 x2 x3 x4 x5) u e = goes_not x4 refl e
+    walks is_first (Way.valid_victim x0 x1 x2 x3 x4 x5) u e = goes_on x4 e tt
+    walks is_first (Way.take_none x0 x1 x2 x3) u e = goes_not x2 refl e
+    walks is_first (Way.take_some x0 x1 x2 x3 x4 x5 x6) u e = goes_on x5 e tt
+    walks is_first (Way.links x0 x1 x2) u e = goes_on x1 e tt
+    walks is_first (Way.links_back x0 x1 x2 x3) u e = goes_on x2 e tt
+    walks is_first (Way.attaches x0 x1 x2 x3 x4 x5) u e = goes_on x4 e tt
+    walks is_first (Way.releases_new x0 x1 x2) u e = goes_on x1 e tt
+    walks is_first (Way.put_ends x0 x1 x2) u e = goes_not x1 refl e
+    walks is_first (Way.victim_waits x0 x1 x2 x3) u e = goes_not x2 refl e
+    walks is_first (Way.victim_taken x0 x1 x2 x3 x4) u e = goes_on x3 e tt
+    walks is_first (Way.marks x0 x1 x2) u e = goes_on x1 e tt
+    walks is_first (Way.unlinks_back x0 x1 x2 x3) u e = goes_on x2 e tt
+    walks is_first (Way.unlinks x0 x1 x2) u e = goes_on x1 e tt
+    walks is_first (Way.detaches x0 x1 x2 x3 x4) u e = goes_on x3 e tt
+    walks is_first (Way.releases_victim x0 x1 x2) u e = goes_on x1 e tt
+    walks is_first (Way.strike_ends x0 x1 x2 x3) u e = goes_not x2 refl e
+    walks is_first (Way.first_missing x0 x1 x2 x3) u e = goes_not x2 refl e
+    walks is_first (Way.first_on_next x0 x1 x2 x3) u e = goes_on x2 e (first_next (is_first x0), x1)
+    walks is_first (Way.first_marked x0 x1 x2 x3) u e = goes_on x2 e tt
+    walks is_first (Way.first_found x0 x1 x2 x3 x4 x5) u e = goes_not x4 refl e

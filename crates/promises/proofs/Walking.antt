@@ -55,16 +55,16 @@ pub data Kept {K : Type 0} (rank : K → K → Ordering) (me : ℕ) (t : Task K)
   ends : (x : Answer K) → o ≡ Ends x → (v : Task K) → rung v.phase ≡ 0 → v.awaited ≡ t.awaited → Inv rank (task_put me (Some v) mid) → Kept rank me t o mid
   retires : (p : ℕ) → o ≡ Retires p → ((w : List Bool) → Others me mid w → Inv rank (work_over me t.awaited (retire_put p (rests w) mid))) → Kept rank me t o mid
 
-module _ {K : Type 0} (rank : K → K → Ordering) (laws : Laws rank) (s : Sight K) (inv : Inv rank s) (me : ℕ) (t : Task K) (is-task : s.task me ≡ Some t) where
+module _ {K : Type 0} (rank : K → K → Ordering) (laws : Laws rank) (s : Sight K) (inv : Inv rank s) (me : ℕ) (t : Task K) (is_task : s.task me ≡ Some t) where
   pub awaited_still : (u : Task K) → u.awaited ≡ t.awaited
       → (p : ℕ) (w : List Bool) → s.status p ≡ Retired w → get_or w me false ≡ true → u.awaited ≡ true
-  awaited_still u same p w r g = same ∙ sym (ap is_awaited is-task) ∙ inv.awaits p w r me g
+  awaited_still u same p w r g = same ∙ sym (ap is_awaited is_task) ∙ inv.awaits p w r me g
 
   -- A work that holds nothing takes another task that holds nothing.
   pub loosely : rung t.phase ≡ 0 → (u : Task K) → rung u.phase ≡ 0 → fits u.work (group u.phase) ≡ true → seen_by s me u.at ≡ true
       → (leb 3 (group u.phase) ≡ true → before rank (s.spot u.at) (exact u.key) ≡ true) → u.awaited ≡ t.awaited → Inv rank (task_put me (Some u) s)
   loosely free u loose fit seen below same =
-      retask rank s me (Some u) inv (subst (λ a. Like a (Some u)) (sym is-task) (loose_like (Some t) (Some u) (task_loose t free) (task_loose u loose)))
+      retask rank s me (Some u) inv (subst (λ a. Like a (Some u)) (sym is_task) (loose_like (Some t) (Some u) (task_loose t free) (task_loose u loose)))
       (awaited_still u same)
       (λ v e. subst (Sound rank s me) (just u v e) (record { fit = fit; seen = seen; stands = loose_stands rank s u loose below }))
     where
@@ -83,12 +83,12 @@ module _ {K : Type 0} (rank : K → K → Ordering) (laws : Laws rank) (s : Sigh
     ending : rung t.phase ≡ 0 → mid ≡ s → (x : Answer K) → o ≡ Ends x → It
     ending free same x oc =
         Kept.ends x oc t free refl (subst (λ y. Inv rank (task_put me (Some t) y)) (sym same)
-        (loosely free t free (inv.fit me t is-task) (inv.seen me t is-task) (inv.stands me t is-task).at_below refl))
+        (loosely free t free (inv.fit me t is_task) (inv.seen me t is_task) (inv.stands me t is_task).at_below refl))
 
     pub waiting : mid ≡ s → o ≡ Waits → It
     waiting same oc =
         Kept.waits oc (λ n. subst (λ x. Inv rank (task_put me (Some (with_steps n t)) x)) (sym same)
-        (retask rank s me (Some (with_steps n t)) inv (subst (λ a. Like a (Some (with_steps n t))) (sym is-task) alike)
+        (retask rank s me (Some (with_steps n t)) inv (subst (λ a. Like a (Some (with_steps n t))) (sym is_task) alike)
         (awaited_still (with_steps n t) refl) (λ v e. subst (Sound rank s me) (just (with_steps n t) v e) (again n))))
       where
         just : (u v : Task K) → ◌≡◌ {A = Option (Task K)} (Some u) (Some v) → u ≡ v
@@ -98,9 +98,9 @@ module _ {K : Type 0} (rank : K → K → Ordering) (laws : Laws rank) (s : Sigh
         alike = record { holding = λ p. refl; lagging = λ p. refl; hiding = λ p. refl; detaching = λ p. refl; striking = λ p. refl; handing = λ p. refl }
 
         again : (n : ℕ) → Sound rank s me (with_steps n t)
-        again n = let st = inv.stands me t is-task in record {
-          fit = inv.fit me t is-task;
-          seen = inv.seen me t is-task;
+        again n = let st = inv.stands me t is_task in record {
+          fit = inv.fit me t is_task;
+          seen = inv.seen me t is_task;
           stands = record {
             at_chained = st.at_chained;
             at_unmarked = st.at_unmarked;
@@ -119,13 +119,13 @@ module _ {K : Type 0} (rank : K → K → Ordering) (laws : Laws rank) (s : Sigh
 
     -- The work of the phase, as it fits.
     fit_here : (ph : Phase) → t.phase ≡ ph → fits t.work (group ph) ≡ true
-    fit_here ph e = subst (λ x. fits t.work (group x) ≡ true) e (inv.fit me t is-task)
+    fit_here ph e = subst (λ x. fits t.work (group x) ≡ true) e (inv.fit me t is_task)
 
     free_here : (ph : Phase) → t.phase ≡ ph → rung ph ≡ 0 → rung t.phase ≡ 0
     free_here ph e z = ap rung e ∙ z
 
     at_seen : seen_by s me t.at ≡ true
-    at_seen = inv.seen me t is-task
+    at_seen = inv.seen me t is_task
 
     not_high : (ord : Ordering) → compared rank (s.spot t.at) t.key ≡ ord → (ord ≡ Greater → ⊥) → t.at ≡ high → ⊥
     not_high ord st other e =
@@ -154,7 +154,7 @@ module _ {K : Type 0} (rank : K → K → Ordering) (laws : Laws rank) (s : Sigh
     changes_fit strikes g e = ap (fits Strike) e
 
     below_here : (ph : Phase) → t.phase ≡ ph → leb 3 (group ph) ≡ true → before rank (s.spot t.at) (exact t.key) ≡ true
-    below_here ph e h = (inv.stands me t is-task).at_below (ap (λ x. leb 3 (group x)) e ∙ h)
+    below_here ph e h = (inv.stands me t is_task).at_below (ap (λ x. leb 3 (group x)) e ∙ h)
 
     low_not_high : low ≡ high → ⊥
     low_not_high e = omega arith
@@ -162,13 +162,13 @@ module _ {K : Type 0} (rank : K → K → Ordering) (laws : Laws rank) (s : Sigh
     to_prev : t.phase ≡ Back → mid ≡ s → o ≡ Goes (moved_to (s.prev t.at) t)
         → (compared rank (s.spot t.at) t.key ≡ Equal) ⊎ (compared rank (s.spot t.at) t.key ≡ Greater) → It
     to_prev e same oc st =
-        going (free_here Back e refl) same (moved_to (s.prev t.at) t) oc (free_here Back e refl) (inv.fit me t is-task) (back_seen st)
+        going (free_here Back e refl) same (moved_to (s.prev t.at) t) oc (free_here Back e refl) (inv.fit me t is_task) (back_seen st)
         (λ h. never (sym h ∙ ap (λ ph. leb 3 (group ph)) e)) refl
 
     to_next : t.phase ≡ On → mid ≡ s → o ≡ Goes (moved_to (s.next t.at) t)
         → (compared rank (s.spot t.at) t.key ≡ Less) ⊎ (compared rank (s.spot t.at) t.key ≡ Equal) → It
     to_next e same oc st =
-        going (free_here On e refl) same (moved_to (s.next t.at) t) oc (free_here On e refl) (inv.fit me t is-task) (on_seen st)
+        going (free_here On e refl) same (moved_to (s.next t.at) t) oc (free_here On e refl) (inv.fit me t is_task) (on_seen st)
         (λ h. never (sym h ∙ ap (λ ph. leb 3 (group ph)) e)) refl
 
     -- No work that was begun strays.
@@ -183,12 +183,12 @@ module _ {K : Type 0} (rank : K → K → Ordering) (laws : Laws rank) (s : Sigh
 
     -- The rules that only read keep the invariant.
     pub walking_keeps : is_walking t.phase ≡ true → Way rank s me t o mid → It
-    walking_keeps h (Way.strays x0 x1 x2) = never_strays t.work t.phase x0 (inv.fit me t is-task)
+    walking_keeps h (Way.strays x0 x1 x2) = never_strays t.work t.phase x0 (inv.fit me t is_task)
     walking_keeps h (Way.enters x0 x1 x2 x3 x4) = going (free_here Enter x0 refl) x4 (into Down (with_downs 0 (moved_to x1 t))) x3 refl (fit_here Enter x0) (guided_is_seen rank laws s inv me x1 x2) (λ h. never (sym h)) refl
     walking_keeps h (Way.down_here x0 x1 x2 x3) = going (free_here Down x0 refl) x3 (into Check t) x2 refl (fit_here Down x0) at_seen (λ h. never (sym h)) refl
     walking_keeps h (Way.down_lost x0 x1 x2 x3) = going (free_here Down x0 refl) x3 (into Check (moved_to low t)) x2 refl (fit_here Down x0) (low_seen rank s inv me) (λ h. never (sym h)) refl
     walking_keeps h (Way.down_last x0 x1 x2 x3 x4 x5 x6) = going (free_here Down x0 refl) x6 (into Check (moved_to x2 t)) x5 refl (fit_here Down x0) (guided_is_seen rank laws s inv me x2 x3) (λ h. never (sym h)) refl
-    walking_keeps h (Way.down_on x0 x1 x2 x3 x4 x5 x6) = going (free_here Down x0 refl) x6 (with_downs (t.downs + 1) (moved_to x2 t)) x5 (free_here Down x0 refl) (inv.fit me t is-task) (guided_is_seen rank laws s inv me x2 x3) (λ h. never (sym h ∙ ap (λ ph. leb 3 (group ph)) x0)) refl
+    walking_keeps h (Way.down_on x0 x1 x2 x3 x4 x5 x6) = going (free_here Down x0 refl) x6 (with_downs (t.downs + 1) (moved_to x2 t)) x5 (free_here Down x0 refl) (inv.fit me t is_task) (guided_is_seen rank laws s inv me x2 x3) (λ h. never (sym h ∙ ap (λ ph. leb 3 (group ph)) x0)) refl
     walking_keeps h (Way.check_marked x0 x1 x2 x3) = going (free_here Check x0 refl) x3 (into Back (moved_to low t)) x2 refl (fit_here Check x0) (low_seen rank s inv me) (λ h. never (sym h)) refl
     walking_keeps h (Way.check_unmarked x0 x1 x2 x3) = going (free_here Check x0 refl) x3 (into Back t) x2 refl (fit_here Check x0) at_seen (λ h. never (sym h)) refl
     walking_keeps h (Way.back_look_yes x0 x1 x2 x3 x4 x5) = ending (free_here Back x0 refl) x5 _ x4
@@ -207,7 +207,7 @@ module _ {K : Type 0} (rank : K → K → Ordering) (laws : Laws rank) (s : Sigh
     walking_keeps h (Way.on_after_missing x0 x1 x2 x3 x4) = ending (free_here On x0 refl) x4 _ x3
     walking_keeps h (Way.on_after_marked x0 x1 x2 x3 x4 x5) = going (free_here On x0 refl) x5 (into Enter t) x4 refl (ap (λ w. fits w 0) x1) at_seen (λ h. never (sym h)) refl
     walking_keeps h (Way.on_after_found x0 x1 x2 x3 x4 x5 x6 x7) = ending (free_here On x0 refl) x7 _ x6
-    walking_keeps h (Way.seek_next x0 x1 x2 x3 x4) = going (free_here Seek x0 refl) x4 (moved_to (s.next t.at) t) x3 (free_here Seek x0 refl) (inv.fit me t is-task) (next_is_seen rank s inv me t.at at_seen (not_high_below rank s inv t.at _ (below_here Seek x0 refl))) (λ _. less_is_before rank laws _ _ x2) refl
+    walking_keeps h (Way.seek_next x0 x1 x2 x3 x4) = going (free_here Seek x0 refl) x4 (moved_to (s.next t.at) t) x3 (free_here Seek x0 refl) (inv.fit me t is_task) (next_is_seen rank s inv me t.at at_seen (not_high_below rank s inv t.at _ (below_here Seek x0 refl))) (λ _. less_is_before rank laws _ _ x2) refl
     walking_keeps h (Way.seek_lock x0 x1 x2 x3 x4) = going (free_here Seek x0 refl) x4 (into Lock t) x3 refl (fit_here Seek x0) at_seen (λ _. below_here Seek x0 refl) refl
     walking_keeps h (Way.lock_waits x0 x1 x2 x3) = never (sym h ∙ ap is_walking x0)
     walking_keeps h (Way.lock_taken x0 x1 x2 x3 x4) = never (sym h ∙ ap is_walking x0)

@@ -1,7 +1,7 @@
 // The rules by which a put or a strike takes below's lock and sees whether below is still right: LOCK, VALID.
 ghost use Rattle.std.specs.Prelude.{◌≡◌};
 ghost use Rattle.records.specs.Records.{Rules, held_by_other as is_held_by_other};
-ghost use Rattle.rules.specs.Holding.{lock as IsLockRule, valid as valid_rule};
+ghost use Rattle.rules.specs.Holding.{lock as lock_rule, valid as valid_rule};
 
 use crate::find::standing;
 use orders::Order;
@@ -20,7 +20,7 @@ pub fn held_by_other(me: u8, lock: Option<u8>) -> bool
 
 // LOCK: if another station holds below's lock, the step waits. Otherwise it takes the lock. VALID follows.
 pub fn lock<K: Order>(places: &mut [Place<K>], me: u8, task: Task<K>) -> Result<Outcome<K>, Damage>
-    ensures { Rules (IsLockRule places.old task me) places.old result places.new }
+    ensures { Rules (lock_rule places.old task me) places.old result places.new }
 {
     let i = task.at as usize;
     if i >= places.len() {

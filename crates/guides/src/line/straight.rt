@@ -81,16 +81,16 @@ impl Guide for Line {
 
     // Low, from where a search walks up.
     fn start(&self) -> Number
-        ensures self_value { has result (straight self.now).sequence ≡ true }
-        ensures value { result ≡ 0 }
+        ensures stands { has result (straight self.now).sequence ≡ true }
+        ensures is_low { result ≡ 0 }
     {
         LOW
     }
 
     // The straight guide leads nowhere: beside each place is its end.
     fn beside(&self, place: Number, side: Side) -> Beside
-        ensures answers_beside { AnswersBeside (straight self.now).sequence place side result }
-        ensures value { result ≡ (if has place (straight self.now).sequence then Beside.End else Beside.Absent) }
+        ensures keeps_the_rule { AnswersBeside (straight self.now).sequence place side result }
+        ensures leads_nowhere { result ≡ (if has place (straight self.now).sequence then Beside.End else Beside.Absent) }
     {
         match self.position(place) {
             Some(_) => Beside::End,
@@ -128,8 +128,8 @@ impl Guide for Line {
 
     // There is nothing to mend.
     fn mend(&mut self) -> Mended
-        ensures self_unchanged { straight self.new ≡ straight self.old }
-        ensures value { (result ≡ Mended.Nothing) × (self.new ≡ self.old) }
+        ensures meaning_stays { straight self.new ≡ straight self.old }
+        ensures nothing_done { (result ≡ Mended.Nothing) × (self.new ≡ self.old) }
     {
         Mended::Nothing
     }

@@ -1,18 +1,18 @@
 -- What each change of the tree makes of the tree that the links show. Assumes that no place hangs twice, and that 0 does not.
-use Rattle.std.proofs.Common.{◌≡◌, ℕ, Bool, true, false, cond, ◌||◌, eqb, List, [], ◌∷◌, sym, refl, ap, ◌∙◌, subst, inl, inr, arith}
-use Rattle.std.proofs.lemmas.Bool.{and_parts, eqb-true, eqb-false, eq-eqb, ne_eqb, or_left, or_right, or_parts, both_ways, cases_Bool}
+use Rattle.std.proofs.Common.{◌≡◌, ℕ, true, false, cond, ◌||◌, eqb, List, [], ◌∷◌, sym, refl, ap, ◌∙◌, subst, inl, inr, arith}
+use Rattle.std.proofs.lemmas.Bool.{eqb-false, eq-eqb, ne_eqb, or_parts, both_ways, cases_Bool}
 use Rattle.std.proofs.lemmas.Bool.Decides.{nat_tests}
 use Rattle.guides.specs.declared.answer.Side.{Side}
 use Rattle.guides.specs.declared.answer.Side.TheVariants.{Lower, Higher}
 use Rattle.tables.specs.declared.entry.Entry.{Entry}
-use Rattle.tables.specs.Changes.{hanging, lifting, yielding, turning}
-use Rattle.tables.specs.Entries.{child, opposite, with_child, with_exchanged, with_parent, with_links, with_before, with_after}
+use Rattle.tables.specs.Changes.{lifting, yielding, turning}
+use Rattle.tables.specs.Entries.{child, opposite, with_child, with_exchanged, with_parent, with_links}
 use Rattle.tables.specs.Entries.{only_child, fresh}
 use Rattle.tables.specs.Shapes.{Shape, bare, node, root}
 use Rattle.tables.proofs.Spots.{Shows, Spot, top, under, join, plug, above, around, holds, Around, Same, frame_shows, holds_root}
-use Rattle.tables.proofs.Spots.{Joined, joined, joins, root_join, unplug, replug, Once, OnceAround, Apart, alone, once_joined, holds_join}
+use Rattle.tables.proofs.Spots.{joined, joins, root_join, unplug, replug, Once, OnceAround, Apart, alone, once_joined, holds_join}
 use Rattle.tables.proofs.Spots.{OnceJoined, holds_plug, holds_left, holds_right, around_above, around_beside, around_up}
-use Rattle.tables.proofs.Writes.{touched, touch_hit, touch_skip, touched_away, Away}
+use Rattle.tables.proofs.Writes.{touched, touch_hit, touch_skip, touched_away}
 
 -- ---- what keeps its links
 
@@ -308,9 +308,9 @@ yield_shows f h k l p r s shown once zero absent nonzero reads =
     ∙ touch_skip lows (highs ∷ takes ∷ []) s (f s) (λ i. root_differs l s trees.0 nonzero (sym i))
     ∙ touch_skip highs (takes ∷ []) s (f s) (λ i. root_differs r s trees.1 nonzero (sym i))
     ∙ touch_hit takes [] s (f s) refl in
-    let low-high : (y : ℕ) → holds y l ≡ true → y ≡ root r → ⊥ =
+    let low_high : (y : ℕ) → holds y l ≡ true → y ≡ root r → ⊥ =
     λ y e i. root_differs r y (at.inside_once.apart y e) (differ l y 0 e at.nought_near) (sym i) in
-    let high-low : (y : ℕ) → holds y r ≡ true → y ≡ root l → ⊥ =
+    let high_low : (y : ℕ) → holds y r ≡ true → y ≡ root l → ⊥ =
     λ y e i. root_differs l y (flip l r y (at.inside_once.apart y) e) (differ r y 0 e at.nought_far) (sym i) in
     replug h k (node l s r)
     (relinked f h k p s at.around_once whole.0 at.place_apart at.place_nonzero
@@ -333,7 +333,7 @@ yield_shows f h k l p r s shown once zero absent nonzero reads =
           same_as (f y) (h y)
           (is y
           ∙ touched_away (swaps ∷ lows ∷ highs ∷ takes ∷ []) y (f y)
-          (above_outside k l at.near_apart at.nought_near y e, (away, (low-high y e, (differ l y s e trees.0, tt))))))
+          (above_outside k l at.near_apart at.nought_near y e, (away, (low_high y e, (differ l y s e trees.0, tt))))))
           (λ e.
           same_as (with_parent s (f (root l))) (h (root l))
           (is (root l)
@@ -341,19 +341,19 @@ yield_shows f h k l p r s shown once zero absent nonzero reads =
           (above_outside k l at.near_apart at.nought_near (root l) e)
           ∙ touch_hit lows (highs ∷ takes ∷ []) (root l) (f (root l)) refl
           ∙ touched_away (highs ∷ takes ∷ []) (root l) (with_parent s (f (root l)))
-          (low-high (root l) e, (differ l (root l) s e trees.0, tt)))),
+          (low_high (root l) e, (differ l (root l) s e trees.0, tt)))),
       adopted f h p s r at.inside_once.far hole.4
           (λ y e away.
           same_as (f y) (h y)
           (is y
           ∙ touched_away (swaps ∷ lows ∷ highs ∷ takes ∷ []) y (f y)
-          (above_outside k r at.far_apart at.nought_far y e, (high-low y e, (away, (differ r y s e trees.1, tt))))))
+          (above_outside k r at.far_apart at.nought_far y e, (high_low y e, (away, (differ r y s e trees.1, tt))))))
           (λ e.
           same_as (with_parent s (f (root r))) (h (root r))
           (is (root r)
           ∙ touch_skip swaps (lows ∷ highs ∷ takes ∷ []) (root r) (f (root r))
           (above_outside k r at.far_apart at.nought_far (root r) e)
-          ∙ touch_skip lows (highs ∷ takes ∷ []) (root r) (f (root r)) (high-low (root r) e)
+          ∙ touch_skip lows (highs ∷ takes ∷ []) (root r) (f (root r)) (high_low (root r) e)
           ∙ touch_hit highs (takes ∷ []) (root r) (f (root r)) refl
           ∙ touched_away (takes ∷ []) (root r) (with_parent s (f (root r))) (differ r (root r) s e trees.1, tt))),
     )
@@ -375,9 +375,9 @@ turn_shows f h k side u c v n a shown once zero reads =
     let below = joined f n far u c v hole.inner in
     let at = filled k side m n a once zero in
     let in' = once_joined far u c v at.inside_once.near in
-    let top-c : holds c m ≡ true = holds_top far u c v in
-    let in-u : (y : ℕ) → holds y u ≡ true → holds y m ≡ true = λ y e. holds_near y far u c v e in
-    let in-v : (y : ℕ) → holds y v ≡ true → holds y m ≡ true = λ y e. holds_far y far u c v e in
+    let top_c : holds c m ≡ true = holds_top far u c v in
+    let in_u : (y : ℕ) → holds y u ≡ true → holds y m ≡ true = λ y e. holds_near y far u c v e in
+    let in_v : (y : ℕ) → holds y v ≡ true → holds y m ≡ true = λ y e. holds_far y far u c v e in
     let is_c : child side (f n) ≡ c = hole.near ∙ root_join far u c v in
     let iu = root u in
     let first : ℕ × (Entry → Entry) = (n, λ d. with_parent c (with_child side iu d)) in
@@ -397,30 +397,30 @@ turn_shows f h k side u c v n a shown once zero reads =
     ∙ ap (λ d. touched (Writes d (child far (f d)) (f n).parent) y (f y)) is_c
     ∙ ap (λ d. touched (Writes c d (f n).parent) y (f y)) below.near
     ∙ ap (λ d. touched (Writes c iu d) y (f y)) hole.parent in
-    let not-c : (y : ℕ) → around y k ≡ true → y ≡ c → ⊥ = λ y e. differ_around k y c e (at.near_apart c top-c) in
-    let not-n : (y : ℕ) → around y k ≡ true → y ≡ n → ⊥ = λ y e. differ_around k y n e at.place_apart in
-    let nought-u : holds 0 u ≡ false = within_false m u 0 in-u at.nought_near in
-    let nought-m = at.nought_near in
-    let apart-u : Apart k u = λ y e. at.near_apart y (in-u y e) in
-    let apart-v : Apart k v = λ y e. at.near_apart y (in-v y e) in
-    let not-iu = root_outside k u apart-u at.nought_around in
-    let n-m = at.inside_once.not_near in
-    let n-u : holds n u ≡ false = within_false m u n in-u n-m in
-    let own-n : h n ≡ with_parent c (with_child side iu (f n)) =
+    let not_c : (y : ℕ) → around y k ≡ true → y ≡ c → ⊥ = λ y e. differ_around k y c e (at.near_apart c top_c) in
+    let not_n : (y : ℕ) → around y k ≡ true → y ≡ n → ⊥ = λ y e. differ_around k y n e at.place_apart in
+    let nought_u : holds 0 u ≡ false = within_false m u 0 in_u at.nought_near in
+    let nought_m = at.nought_near in
+    let apart_u : Apart k u = λ y e. at.near_apart y (in_u y e) in
+    let apart_v : Apart k v = λ y e. at.near_apart y (in_v y e) in
+    let not_iu = root_outside k u apart_u at.nought_around in
+    let n_m = at.inside_once.not_near in
+    let n_u : holds n u ≡ false = within_false m u n in_u n_m in
+    let own_n : h n ≡ with_parent c (with_child side iu (f n)) =
     is n
     ∙ touch_hit first (second ∷ third ∷ fourth ∷ []) n (f n) refl
     ∙ touched_away (second ∷ third ∷ fourth ∷ []) n (with_parent c (with_child side iu (f n))) (
-      (λ i. root_differs u n n-u at.place_nonzero (sym i)),
-      (elsewhere k n at.place_apart at.place_nonzero, ((λ i. differ m c n top-c n-m (sym i)), tt)),
+      (λ i. root_differs u n n_u at.place_nonzero (sym i)),
+      (elsewhere k n at.place_apart at.place_nonzero, ((λ i. differ m c n top_c n_m (sym i)), tt)),
     ) in
-    let c-nonzero : c ≡ 0 → ⊥ = differ m c 0 top-c nought-m in
-    let c-iu : c ≡ iu → ⊥ = λ i. root_differs u c in'.not_near c-nonzero (sym i) in
-    let c-q : c ≡ q → ⊥ = elsewhere k c (at.near_apart c top-c) c-nonzero in
-    let own-c : h c ≡ with_parent q (with_child far n (f c)) =
+    let c_nonzero : c ≡ 0 → ⊥ = differ m c 0 top_c nought_m in
+    let c_iu : c ≡ iu → ⊥ = λ i. root_differs u c in'.not_near c_nonzero (sym i) in
+    let c_q : c ≡ q → ⊥ = elsewhere k c (at.near_apart c top_c) c_nonzero in
+    let own_c : h c ≡ with_parent q (with_child far n (f c)) =
     is c
-    ∙ touch_skip first (second ∷ third ∷ fourth ∷ []) c (f c) (differ m c n top-c n-m)
-    ∙ touch_skip second (third ∷ fourth ∷ []) c (f c) c-iu
-    ∙ touch_skip third (fourth ∷ []) c (f c) c-q
+    ∙ touch_skip first (second ∷ third ∷ fourth ∷ []) c (f c) (differ m c n top_c n_m)
+    ∙ touch_skip second (third ∷ fourth ∷ []) c (f c) c_iu
+    ∙ touch_skip third (fourth ∷ []) c (f c) c_q
     ∙ touch_hit fourth [] c (f c) refl in
     replug h k (join far (join side u n a) c v)
     (subst (λ (z : ℕ). Around h k z) (sym (root_join far (join side u n a) c v))
@@ -430,35 +430,35 @@ turn_shows f h k side u c v n a shown once zero reads =
     same_as (f y) (h y)
     (is y
     ∙ touched_away (first ∷ second ∷ third ∷ fourth ∷ []) y (f y)
-    (not-n y e, (not-iu y e, (away, (not-c y e, tt))))))
+    (not_n y e, (not_iu y e, (away, (not_c y e, tt))))))
     (λ e.
     same_as (with_exchanged n c (f q)) (h q)
     (is q
-    ∙ touch_skip first (second ∷ third ∷ fourth ∷ []) q (f q) (not-n q e)
-    ∙ touch_skip second (third ∷ fourth ∷ []) q (f q) (not-iu q e)
+    ∙ touch_skip first (second ∷ third ∷ fourth ∷ []) q (f q) (not_n q e)
+    ∙ touch_skip second (third ∷ fourth ∷ []) q (f q) (not_iu q e)
     ∙ touch_hit third (fourth ∷ []) q (f q) refl
-    ∙ touched_away (fourth ∷ []) q (with_exchanged n c (f q)) (not-c q e, tt)))))
+    ∙ touched_away (fourth ∷ []) q (with_exchanged n c (f q)) (not_c q e, tt)))))
     (joins h q far (join side u n a) c v record {
-      near = ap (child far) own-c ∙ child_parent far q _ ∙ child_new far n (f c) ∙ sym (root_join side u n a);
-      far = ap (child (opposite far)) own-c ∙ child_parent (opposite far) q _ ∙ child_other far n (f c) ∙ below.far;
-      parent = ap (λ (e : Entry). e.parent) own-c;
+      near = ap (child far) own_c ∙ child_parent far q _ ∙ child_new far n (f c) ∙ sym (root_join side u n a);
+      far = ap (child (opposite far)) own_c ∙ child_parent (opposite far) q _ ∙ child_other far n (f c) ∙ below.far;
+      parent = ap (λ (e : Entry). e.parent) own_c;
       inner = joins h c side u n a record {
-        near = ap (child side) own-n ∙ child_parent side c _ ∙ child_new side iu (f n);
-        far = ap (child far) own-n ∙ child_parent far c _ ∙ child_other side iu (f n) ∙ hole.far;
-        parent = ap (λ (e : Entry). e.parent) own-n;
+        near = ap (child side) own_n ∙ child_parent side c _ ∙ child_new side iu (f n);
+        far = ap (child far) own_n ∙ child_parent far c _ ∙ child_other side iu (f n) ∙ hole.far;
+        parent = ap (λ (e : Entry). e.parent) own_n;
         inner = adopted f h c n u in'.near below.inner
             (λ y e away.
             same_as (f y) (h y)
             (is y
             ∙ touched_away (first ∷ second ∷ third ∷ fourth ∷ []) y (f y)
-            (differ u y n e n-u, (away, (above_outside k u apart-u nought-u y e, (differ u y c e in'.not_near, tt))))))
+            (differ u y n e n_u, (away, (above_outside k u apart_u nought_u y e, (differ u y c e in'.not_near, tt))))))
             (λ e.
             same_as (with_parent n (f iu)) (h iu)
             (is iu
-            ∙ touch_skip first (second ∷ third ∷ fourth ∷ []) iu (f iu) (differ u iu n e n-u)
+            ∙ touch_skip first (second ∷ third ∷ fourth ∷ []) iu (f iu) (differ u iu n e n_u)
             ∙ touch_hit second (third ∷ fourth ∷ []) iu (f iu) refl
             ∙ touched_away (third ∷ fourth ∷ []) iu (with_parent n (f iu))
-            (above_outside k u apart-u nought-u iu e, (differ u iu c e in'.not_near, tt))));
+            (above_outside k u apart_u nought_u iu e, (differ u iu c e in'.not_near, tt))));
         outer = frame_shows f h n a
             (λ y e.
             same_as (f y) (h y)
@@ -467,11 +467,11 @@ turn_shows f h k side u c v n a shown once zero reads =
               differ a y n e at.inside_once.not_far,
               (
                 (λ i.
-                    root_differs u y (within_false m u y in-u (flip m a y (at.inside_once.apart y) e))
+                    root_differs u y (within_false m u y in_u (flip m a y (at.inside_once.apart y) e))
                     (differ a y 0 e at.nought_far) (sym i)),
                 (
                   above_outside k a at.far_apart at.nought_far y e,
-                  ((λ i. differ a y c e (at.inside_once.apart c top-c) i), tt),
+                  ((λ i. differ a y c e (at.inside_once.apart c top_c) i), tt),
                 ),
               ),
             )))
@@ -482,11 +482,11 @@ turn_shows f h k side u c v n a shown once zero reads =
           same_as (f y) (h y)
           (is y
           ∙ touched_away (first ∷ second ∷ third ∷ fourth ∷ []) y (f y) (
-            differ m y n (in-v y e) n-m,
+            differ m y n (in_v y e) n_m,
             (
-              (λ i. root_differs u y (flip u v y (in'.apart y) e) (differ m y 0 (in-v y e) nought-m) (sym i)),
+              (λ i. root_differs u y (flip u v y (in'.apart y) e) (differ m y 0 (in_v y e) nought_m) (sym i)),
               (
-                above_outside k v apart-v (within_false m v 0 in-v nought-m) y e,
+                above_outside k v apart_v (within_false m v 0 in_v nought_m) y e,
                 (differ v y c e in'.not_far, tt),
               ),
             ),

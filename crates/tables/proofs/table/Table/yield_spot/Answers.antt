@@ -11,12 +11,12 @@ unfolding yielded
 returns c =
     let e = c.entry-entry.result in
     let other = c.args.other in
-    c.set-links.ensures
-    ∙ ap (revise other (with_links e)) c.set-parent-2.ensures
-    ∙ ap (λ es. revise other (with_links e) (revise e.right (with_parent other) es)) c.set-parent.ensures
+    c.set_links.ensures
+    ∙ ap (revise other (with_links e)) c.set_parent-2.ensures
+    ∙ ap (λ es. revise other (with_links e) (revise e.right (with_parent other) es)) c.set_parent.ensures
     ∙ ap
     (λ es.
     revise other (with_links e)
     (revise e.right (with_parent other) (revise e.left (with_parent other) es)))
-    c.exchange-child.ensures
+    c.exchange_child.ensures
     ∙ ap (λ d. revised (yielding c.args.place other d) (rows c.args.self.now)) c.entry-entry.ensures

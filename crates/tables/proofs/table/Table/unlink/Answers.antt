@@ -24,7 +24,7 @@ unfolding unlinked
 returns-else-entry-eq-LOW-2 c =
     let two = ap (λ (d : Entry). eqb d.left 0 || eqb d.right 0) (sym c.entry-entry.ensures) in
     let place = c.args.place in
-    c.yield-spot.ensures
+    c.yield_spot.ensures
     ∙ ap (λ es. yielded place c.entry-entry.result.after es) c.lift-else-entry-eq-LOW-2.ensures
     ∙ ap (λ (d : Entry). yielded place d.after (lifted d.after (rows c.args.self.now))) c.entry-entry.ensures
     ∙ sym (cond-false _ _ _ (two ∙ neither_test _ _ c.if-entry-eq-LOW-2.false))

@@ -1,5 +1,5 @@
 -- What a table holds that keeps the rule. Assumes nothing.
-use Rattle.std.proofs.Common.{◌≡◌, ℕ, suc, ◌<◌, ◌≤◌, Bool, true, false, not, ◌&&◌, ◌||◌, eqb, ltb, leb, List, [], ◌∷◌, ◌++◌, length, sym, refl, ap, ◌∙◌, subst, inl, inr, arith}
+use Rattle.std.proofs.Common.{◌≡◌, ℕ, suc, ◌<◌, ◌≤◌, true, false, not, ◌||◌, eqb, leb, List, [], ◌∷◌, length, sym, refl, ap, ◌∙◌, subst, inl, inr, arith}
 use Rattle.std.specs.List.{AllByRecursion as All}
 use Rattle.std.proofs.lemmas.Bool.{cases_Bool, cases_eq, and_parts, and_from, eqb-true, eqb-false, eq-eqb, ne_eqb, both_ways, or_right, or_parts, or_from, not_from_true, not_from_false, leb-true, leb-false}
 use Rattle.std.proofs.lemmas.Bool.Decides.{nat_tests}
@@ -9,13 +9,13 @@ use Rattle.guides.specs.Meaning.{Meaning, has, distinct, all_below, lawful}
 use Rattle.guides.proofs.Sequences.{Lawful, lawful_parts}
 use Rattle.guides.proofs.Pigeonhole.{lawful_length}
 use Rattle.tables.specs.declared.entry.Entry.{Entry}
-use Rattle.tables.specs.Entries.{with_child, with_exchanged, side_of}
+use Rattle.tables.specs.Entries.{with_child}
 use Rattle.tables.specs.Revisions.{at}
-use Rattle.tables.specs.Shapes.{Shape, bare, node, root, order, shape_of, grown, sequence_of, tree_meaning, idle, shows, threaded}
+use Rattle.tables.specs.Shapes.{Shape, node, root, order, shape_of, grown, sequence_of, tree_meaning, idle, shows, threaded}
 use Rattle.tables.specs.Shapes.{keeps_law, keeps_links, keeps_thread, KeepsRest}
-use Rattle.tables.proofs.Spots.{Shows, Spot, top, under, plug, above, holds, has_order, Once, once_from_distinct, shows_parts, shows_from_parts}
+use Rattle.tables.proofs.Spots.{Shows, Spot, top, under, plug, holds, has_order, Once, once_from_distinct, shows_parts, shows_from_parts}
 use Rattle.tables.proofs.Spots.{unplug, around, holds_plug}
-use Rattle.tables.proofs.Orders.{grown_shows, locate, above_stands, root_stands}
+use Rattle.tables.proofs.Orders.{grown_shows, locate, root_stands}
 use Rattle.tables.proofs.Threads.{Thread, thread_parts, thread_end, threaded_from_parts, distinct_tail, has_right, has_first}
 use Rattle.tables.proofs.Writes.{Within}
 

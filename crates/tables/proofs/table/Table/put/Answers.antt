@@ -4,9 +4,9 @@ use Rattle.std.proofs.lemmas.List.{set_past}
 use Rattle.std.proofs.lemmas.Bool.Decides.{nat_tests}
 use Rattle.tables.proofs.table.Table.put.Goals as goal
 
-pub returns-else-is-some : goal.returns-else-is-some
-returns-else-is-some c =
-    let told = c.if-is-some.ensures in
+pub returns-else-is_some : goal.returns-else-is_some
+returns-else-is_some c =
+    let told = c.if-is_some.ensures in
     let finds = c.get.ensures.lookup in
     let past : length c.args.self.now.entries ≤ c.args.place = grind (arith, nat_tests) in
     sym (set_past _ _ _ past)

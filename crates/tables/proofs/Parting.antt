@@ -1,6 +1,6 @@
 -- A table that keeps the rule keeps it when a place is taken out. Assumes nothing.
-use Rattle.std.proofs.Common.{◌≡◌, ℕ, ◌<◌, ◌≤◌, Bool, true, false, ◌||◌, eqb, ◌⊎◌, List, [], ◌∷◌, ◌++◌, length, sym, refl, ap, ◌∙◌, subst, inl, inr, append_assoc, arith}
-use Rattle.std.proofs.lemmas.Bool.{both_ways, cases_eq, or_right}
+use Rattle.std.proofs.Common.{◌≡◌, ℕ, ◌<◌, ◌≤◌, true, false, ◌||◌, List, [], ◌∷◌, ◌++◌, length, sym, refl, ap, ◌∙◌, subst, inl, inr, append_assoc, arith}
+use Rattle.std.proofs.lemmas.Bool.{cases_eq}
 use Rattle.std.proofs.lemmas.Bool.Decides.{nat_tests}
 use Rattle.guides.specs.Meaning.{has, distinct, neighbours, lawful, without}
 use Rattle.guides.proofs.Sequences.{detached_is_lawful, without_at, has_append, distinct_at_before, distinct_at_after}
@@ -8,15 +8,15 @@ use Rattle.tables.specs.declared.entry.Entry.{Entry}
 use Rattle.tables.specs.Changes.{parting, parted, unlinked, taken_out}
 use Rattle.tables.specs.Entries.{blank, with_after, with_before}
 use Rattle.tables.specs.Revisions.{at}
-use Rattle.tables.specs.Shapes.{Shape, bare, node, root, order}
-use Rattle.tables.proofs.Hanging.{differs, later_absent}
-use Rattle.tables.proofs.Holding.{Holds, meant, parts_of, below_of, high_stands, later}
-use Rattle.tables.proofs.Spots.{Shows, holds, has_order, frame_shows, Same}
+use Rattle.tables.specs.Shapes.{Shape, order}
+use Rattle.tables.proofs.Hanging.{differs}
+use Rattle.tables.proofs.Holding.{Holds, meant, parts_of, below_of, later}
+use Rattle.tables.proofs.Spots.{Shows, has_order, frame_shows}
 use Rattle.tables.proofs.Orders.{cut_once}
-use Rattle.tables.proofs.Threads.{Thread, Alike, cut_at, thread_removed, neighbours_stand, neighbours_know, has_right, has_first}
-use Rattle.tables.proofs.Threads.{some_after, some_before, frame_back, distinct_tail}
+use Rattle.tables.proofs.Threads.{Thread, Alike, cut_at, thread_removed, neighbours_stand, neighbours_know, has_right}
+use Rattle.tables.proofs.Threads.{some_after, some_before, frame_back}
 use Rattle.tables.proofs.Unlinking.{Unlinked}
-use Rattle.tables.proofs.Writes.{Within, touched, at_revised, length_revised, touched_away, touch_hit, touch_skip, field_kept}
+use Rattle.tables.proofs.Writes.{Within, touched, at_revised, length_revised, touched_away, touch_hit, field_kept}
 use Rattle.tables.proofs.Yielding.{unlink_unlinks, length_unlinked}
 
 -- y stands nowhere once p is gone: it is p, or stood nowhere before.

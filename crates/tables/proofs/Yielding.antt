@@ -1,6 +1,6 @@
 -- What taking a place with two children out of the tree leaves: its successor yields its own spot and gets the place's.
 -- Assumes that no place hangs twice.
-use Rattle.std.proofs.Common.{◌≡◌, ℕ, ◌<◌, ◌≤◌, Bool, true, false, cond, ◌||◌, eqb, ◌⊎◌, List, [], ◌∷◌, ◌++◌, length, sym, refl, ap, ◌∙◌, subst, inl, inr, append_assoc, arith}
+use Rattle.std.proofs.Common.{◌≡◌, ℕ, ◌≤◌, true, false, ◌||◌, eqb, ◌⊎◌, List, [], ◌∷◌, ◌++◌, length, sym, refl, ap, ◌∙◌, subst, inl, inr, append_assoc, arith}
 use Rattle.std.proofs.lemmas.Bool.{both_ways, or_from, or_left, or_right, cond-true, cond-false, cond_both, eq-eqb, ne_eqb}
 use Rattle.guides.specs.declared.answer.Side.TheVariants.{Lower, Higher}
 use Rattle.guides.specs.Meaning.{has, distinct, all_below, neighbours, without}
@@ -11,10 +11,10 @@ use Rattle.tables.specs.Changes.{lifted, yielding, yielded, unlinked}
 use Rattle.tables.specs.Revisions.{at}
 use Rattle.tables.specs.Shapes.{Shape, bare, node, root, order}
 use Rattle.tables.proofs.Hanging.{differs, later_absent}
-use Rattle.tables.proofs.Holding.{Holds, parts_of, nought_of, below_has, once_in, nought_in, stands_in}
+use Rattle.tables.proofs.Holding.{Holds, parts_of, below_has, once_in, nought_in, stands_in}
 use Rattle.tables.proofs.Links.{yield_shows}
 use Rattle.tables.proofs.Orders.{fronts, backs, order_plug, root_plug, above_stands, root_stands, First, first_of, cut_once, locate}
-use Rattle.tables.proofs.Spots.{Shows, Spot, top, under, plug, above, around, holds, has_order, holds_plug, holds_root, unplug, Once}
+use Rattle.tables.proofs.Spots.{Shows, Spot, top, under, plug, around, holds, has_order, holds_plug, holds_root, unplug}
 use Rattle.tables.proofs.Threads.{Thread, neighbours_cut, neighbours_know}
 use Rattle.tables.proofs.Unlinking.{Unlinked, lift_leaves, lift_unlinks, length_lifted, length_yielded, root_kept, after_exchanged, before_exchanged}
 use Rattle.tables.proofs.Writes.{Within, touched, at_revised, touched_away, field_kept}

@@ -39,8 +39,8 @@ returns c =
     let last = λ (d : Entry). with_parent e.parent (with_child far place d) in
     let inner_is : inner ≡ child (opposite side) (at es ch) = cc in
     c.rehang-2.ensures
-    ∙ ap (revise ch last) c.exchange-child.ensures
-    ∙ ap (λ t. revise ch last (revise e.parent (with_exchanged place ch) t)) c.set-parent.ensures
+    ∙ ap (revise ch last) c.exchange_child.ensures
+    ∙ ap (λ t. revise ch last (revise e.parent (with_exchanged place ch) t)) c.set_parent.ensures
     ∙ ap (λ t. revise ch last (revise e.parent (with_exchanged place ch) (revise inner (with_parent place) t)))
     c.rehang.ensures
     ∙ takes side far place ch inner e es c.opposite-2.ensures c.child-child.ensures inner_is c.entry-entry.ensures

@@ -1,6 +1,6 @@
 -- Where a place between two neighbours may hang. Assumes nothing.
-use Rattle.std.proofs.Common.{◌≡◌, ℕ, ◌<◌, ◌≤◌, Bool, true, false, cond, not, ◌&&◌, ◌||◌, eqb, ◌⊎◌, List, [], ◌∷◌, ◌++◌, length, sym, refl, ap, ◌∙◌, subst, inl, inr, append_assoc, arith}
-use Rattle.std.proofs.lemmas.Bool.{both_ways, cases_Bool, cases_eq, cond-true, cond-false, cond_both, and_parts, and_cases, and_left, and_right, and_from, eqb-true, eqb-false, eq-eqb, ne_eqb, not-true, not-false, not_from_true, not_from_false}
+use Rattle.std.proofs.Common.{◌≡◌, ℕ, ◌<◌, ◌≤◌, true, false, not, ◌&&◌, eqb, ◌⊎◌, List, [], ◌∷◌, ◌++◌, length, sym, refl, ap, ◌∙◌, subst, inl, inr, append_assoc, arith}
+use Rattle.std.proofs.lemmas.Bool.{both_ways, cases_Bool, cond-true, cond-false, cond_both, and_parts, and_cases, and_from, eqb-true, eqb-false, eq-eqb, ne_eqb, not-true, not-false, not_from_false}
 use Rattle.std.proofs.lemmas.Bool.Decides.{nat_tests}
 use Rattle.guides.specs.declared.answer.Side.{Side}
 use Rattle.guides.specs.declared.answer.Side.TheVariants.{Lower, Higher}
@@ -12,13 +12,13 @@ use Rattle.guides.proofs.Sequences.{precedes_at, distinct_at_before}
 use Rattle.tables.specs.declared.entry.Entry.{Entry}
 use Rattle.tables.specs.Changes.{hanging, hung, hung_between}
 use Rattle.tables.specs.Entries.{child}
-use Rattle.tables.specs.Revisions.{at, revised}
-use Rattle.tables.specs.Shapes.{Shape, bare, node, root, order}
+use Rattle.tables.specs.Revisions.{at}
+use Rattle.tables.specs.Shapes.{Shape, bare, node, order}
 use Rattle.tables.proofs.Hanging.{Between, hung_grows, hung_holds}
 use Rattle.tables.proofs.Holding.{Holds, parts_of, nought_of}
 use Rattle.tables.proofs.Orders.{fronts, backs, order_plug, locate, last_of, cut_once}
-use Rattle.tables.proofs.Spots.{Shows, Spot, top, under, plug, above, around, holds, has_order, holds_plug, holds_root, unplug}
-use Rattle.tables.proofs.Threads.{cut_at, neighbours_cut, neighbours_know, neighbours_stand, some_after, has_right, has_first, has_left}
+use Rattle.tables.proofs.Spots.{Shows, Spot, top, under, plug, holds, has_order, unplug}
+use Rattle.tables.proofs.Threads.{cut_at, neighbours_cut, neighbours_know, neighbours_stand, some_after, has_right, has_first}
 use Rattle.tables.proofs.Writes.{length_revised}
 use Rattle.tables.proofs.Yielding.{nonzero}
 
@@ -142,7 +142,7 @@ module _ (es : List Entry) (n : ℕ) (t : Shape) (h : Holds (at es) n t) where
       right_precedes at_p.spot at_p.low p at_p.high at_p.is there
 
 module _ (es : List Entry) (n : ℕ) (t : Shape) (h : Holds (at es) n t) (sized : length es ≡ 1024) (room : n ≤ 1024)
-    (lower x upper : ℕ) (beside : neighbours lower upper (0 ∷ order t) ≡ true) (fresh-x : has x (0 ∷ order t) ≡ false)
+    (lower x upper : ℕ) (beside : neighbours lower upper (0 ∷ order t) ≡ true) (fresh_x : has x (0 ∷ order t) ≡ false)
     (inside : x < n) where
   once_t : distinct (0 ∷ order t) ≡ true
   once_t = (parts_of (at es) n t h).once
@@ -151,12 +151,12 @@ module _ (es : List Entry) (n : ℕ) (t : Shape) (h : Holds (at es) n t) (sized 
       → Between (under side j q s) lower upper → Placed (at (hung side q x lower upper es)) n lower x t
   placed_at side j q s is gap =
       let here = subst (λ (u : Shape). Holds (at es) n u) is h in
-      let fresh-here = ap (λ (u : Shape). has x (0 ∷ order u)) (sym is) ∙ fresh-x in
+      let fresh_here = ap (λ (u : Shape). has x (0 ∷ order u)) (sym is) ∙ fresh_x in
       record {
         tree = plug (under side j q s) (node bare x bare);
-        holds = hung_holds es n side j q s x lower upper here sized room gap fresh-here inside;
+        holds = hung_holds es n side j q s x lower upper here sized room gap fresh_here inside;
         grows =
-            hung_grows es n side j q s x lower upper here sized room gap fresh-here inside
+            hung_grows es n side j q s x lower upper here sized room gap fresh_here inside
             ∙ ap (λ (u : Shape). meaning.with_after lower x (0 ∷ order u)) (sym is);
       }
 

@@ -1,22 +1,20 @@
 -- What taking a place out of the tree leaves: the tree without it, the same thread. Assumes that no place hangs twice.
-use Rattle.std.proofs.Common.{◌≡◌, ℕ, ◌<◌, ◌≤◌, Bool, true, false, cond, ◌||◌, eqb, ◌⊎◌, List, [], ◌∷◌, ◌++◌, length, sym, refl, ap, ◌∙◌, subst, inl, inr, append_assoc, arith}
-use Rattle.std.proofs.lemmas.Bool.{both_ways, or_parts, or_left, or_right, or_from, cond-true, cond-false, eq-eqb, ne_eqb}
+use Rattle.std.proofs.Common.{◌≡◌, ℕ, ◌≤◌, true, false, List, ◌∷◌, ◌++◌, length, sym, refl, ap, ◌∙◌, inr, append_assoc}
 use Rattle.guides.specs.declared.answer.Side.{Side}
 use Rattle.guides.specs.declared.answer.Side.TheVariants.{Lower, Higher}
-use Rattle.guides.specs.Meaning.{has, distinct, neighbours}
-use Rattle.guides.proofs.Sequences.{Lawful, has_append, distinct_at_before, distinct_at_after, distinct_without, without_at}
+use Rattle.guides.specs.Meaning.{has}
+use Rattle.guides.proofs.Sequences.{Lawful}
 use Rattle.tables.specs.declared.entry.Entry.{Entry}
-use Rattle.tables.specs.Changes.{lifting, lifted, yielding, yielded, unlinked}
-use Rattle.tables.specs.Entries.{with_child, with_exchanged, with_parent, with_links, side_of, only_child, child, opposite}
+use Rattle.tables.specs.Changes.{lifting, lifted, yielding, yielded}
+use Rattle.tables.specs.Entries.{with_exchanged, side_of, only_child}
 use Rattle.tables.specs.Revisions.{at}
 use Rattle.tables.specs.Shapes.{Shape, bare, node, root, order}
 use Rattle.tables.proofs.Hanging.{differs}
 use Rattle.tables.proofs.Holding.{within_table, after_child, before_child, once_in, nought_in}
-use Rattle.tables.proofs.Links.{lift_shows, yield_shows, only_child_is}
-use Rattle.tables.proofs.Orders.{fronts, backs, order_plug, root_plug, above_stands, root_stands, First, first_of, cut_once}
-use Rattle.tables.proofs.Spots.{Shows, Spot, top, under, plug, above, holds, has_order, join, joined, root_join, unplug, Once}
-use Rattle.tables.proofs.Threads.{Thread, neighbours_cut, neighbours_know, has_right, has_first}
-use Rattle.tables.proofs.Writes.{Within, touched, at_revised, length_revised, touched_away, field_kept}
+use Rattle.tables.proofs.Links.{lift_shows, only_child_is}
+use Rattle.tables.proofs.Orders.{fronts, backs, order_plug, root_plug, above_stands, root_stands}
+use Rattle.tables.proofs.Spots.{Shows, Spot, top, under, plug, above, join, joined, root_join, unplug}
+use Rattle.tables.proofs.Writes.{touched, at_revised, length_revised, touched_away, field_kept}
 
 pub record Unlinked (f g : ℕ → Entry) (p : ℕ) (t : Shape) : Type 0 where
   pub tree : Shape

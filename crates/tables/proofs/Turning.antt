@@ -1,11 +1,11 @@
 -- A table that keeps the rule keeps it when a place is turned, and its sequence stays. Assumes nothing.
-use Rattle.std.proofs.Common.{◌≡◌, ℕ, ◌<◌, ◌≤◌, Bool, true, false, ◌||◌, ◌⊎◌, List, [], ◌∷◌, ◌++◌, length, sym, refl, ap, ◌∙◌, subst, inl, inr, append_assoc}
+use Rattle.std.proofs.Common.{◌≡◌, ℕ, ◌≤◌, true, List, ◌∷◌, ◌++◌, length, sym, refl, ap, ◌∙◌, subst, inr, append_assoc}
 use Rattle.guides.specs.declared.answer.Side.{Side}
 use Rattle.guides.specs.declared.answer.Side.TheVariants.{Lower, Higher}
 use Rattle.guides.specs.Meaning.{has, lawful}
 use Rattle.tables.specs.declared.entry.Entry.{Entry}
 use Rattle.tables.specs.Changes.{turning, turned}
-use Rattle.tables.specs.Entries.{child, opposite, with_child}
+use Rattle.tables.specs.Entries.{child, opposite}
 use Rattle.tables.specs.Revisions.{at}
 use Rattle.tables.specs.Shapes.{Shape, bare, node, root, order}
 use Rattle.tables.proofs.Hanging.{differs}

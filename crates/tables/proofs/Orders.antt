@@ -1,11 +1,9 @@
 -- The sequence of a tree, at a spot of it. Assumes nothing.
-use Rattle.std.proofs.Common.{◌≡◌, ℕ, zero, suc, ◌≤◌, Bool, true, false, cond, ◌||◌, eqb, List, [], ◌∷◌, ◌++◌, length, sym, refl, ap, ◌∙◌, subst, inl, inr, append_assoc, append-nil, arith, length-append}
-use Rattle.std.proofs.lemmas.Bool.{cases_Bool, cond-true, cond-false, eqb-true, eqb-false, eq-eqb, ne_eqb, or_parts, both_ways}
+use Rattle.std.proofs.Common.{◌≡◌, ℕ, zero, suc, ◌≤◌, Bool, true, false, ◌||◌, eqb, List, [], ◌∷◌, ◌++◌, length, sym, refl, ap, ◌∙◌, inl, inr, append_assoc, append-nil, arith, length-append}
+use Rattle.std.proofs.lemmas.Bool.{cases_Bool, cond-false, eqb-true, or_parts, both_ways}
 use Rattle.std.proofs.lemmas.Bool.Decides.{nat_tests}
-use Rattle.guides.specs.declared.answer.Side.{Side}
 use Rattle.guides.specs.declared.answer.Side.TheVariants.{Lower, Higher}
 use Rattle.guides.specs.Meaning.{has, distinct}
-use Rattle.guides.proofs.Sequences.{has_append}
 use Rattle.tables.specs.declared.entry.Entry.{Entry}
 use Rattle.tables.specs.Shapes.{Shape, bare, node, root, order, grown}
 use Rattle.tables.proofs.Spots.{Shows, Spot, top, under, join, plug, above, around, holds, has_order, holds_plug, holds_root, root_join}
@@ -104,14 +102,14 @@ last_of f q l p (node a b c) s =
 pub grown_shows : (m : ℕ) (f : ℕ → Entry) (q : ℕ) (t : Shape) → length (order t) ≤ m → holds 0 t ≡ false → Shows f q t
     → grown m f (root t) ≡ t
 unfolding grown
-grown_shows zero f q bare fits zero-out s = refl
-grown_shows zero f q (node l p r) fits zero-out s =
+grown_shows zero f q bare fits zero_out s = refl
+grown_shows zero f q (node l p r) fits zero_out s =
     let long = length-append (order l) (p ∷ order r) in
     absurd (omega arith)
-grown_shows (suc m) f q bare fits zero-out s = refl
-grown_shows (suc m) f q (node l p r) fits zero-out s =
+grown_shows (suc m) f q bare fits zero_out s = refl
+grown_shows (suc m) f q (node l p r) fits zero_out s =
     let long = length-append (order l) (p ∷ order r) in
-    let parts = or_parts (eqb p 0) (holds 0 l || holds 0 r) zero-out in
+    let parts = or_parts (eqb p 0) (holds 0 l || holds 0 r) zero_out in
     let trees = or_parts (holds 0 l) (holds 0 r) parts.1 in
     cond-false _ _ _ parts.0
     ∙ ap (λ t. node t p (grown m f (f p).right))

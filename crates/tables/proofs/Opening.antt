@@ -1,13 +1,13 @@
 -- A table in which only High stands keeps the rule. Assumes nothing.
-use Rattle.std.proofs.Common.{◌≡◌, ℕ, zero, suc, ◌<◌, ◌≤◌, true, false, cond, eqb, [], ◌∷◌, length, get_or, replicate, sym, refl, ap, ◌∙◌, arith, length_set}
+use Rattle.std.proofs.Common.{◌≡◌, ℕ, zero, suc, ◌≤◌, false, [], ◌∷◌, length, get_or, replicate, refl, ap, ◌∙◌, arith, length-set}
 use lib.ListN.{length-replicate}
 use Rattle.std.proofs.lemmas.Bool.Decides.{nat_tests}
-use Rattle.guides.specs.Meaning.{has, lawful}
+use Rattle.guides.specs.Meaning.{has}
 use Rattle.guides.proofs.Sequences.{cleared_is_lawful}
 use Rattle.tables.specs.declared.entry.Entry.{Entry}
 use Rattle.tables.specs.Entries.{blank, with_after}
-use Rattle.tables.specs.Revisions.{at, revise, opened}
-use Rattle.tables.specs.Shapes.{Shape, bare, node, root, order}
+use Rattle.tables.specs.Revisions.{at, opened}
+use Rattle.tables.specs.Shapes.{bare, node}
 use Rattle.tables.proofs.Holding.{Holds}
 use Rattle.tables.proofs.Writes.{touched, at_revised, touch_hit, touch_skip}
 
@@ -19,7 +19,7 @@ blank_everywhere (suc m) (suc y) = blank_everywhere m y
 pub length_opened : length opened ≡ 1024
 unfolding opened
 length_opened =
-    length_set (replicate 1024 blank) 0 (with_after 1 (at (replicate 1024 blank) 0)) ∙ length-replicate 1024 blank
+    length-set (replicate 1024 blank) 0 (with_after 1 (at (replicate 1024 blank) 0)) ∙ length-replicate 1024 blank
 
 reads : (y : ℕ) → at opened y ≡ touched ((0, with_after 1) ∷ []) y blank
 unfolding opened

@@ -1,5 +1,5 @@
 -- The thread through the sequence: a place put in, a place taken out. Assumes that no place stands twice.
-use Rattle.std.proofs.Common.{◌≡◌, ℕ, Bool, true, false, ◌&&◌, ◌||◌, eqb, ◌⊎◌, List, [], ◌∷◌, ◌++◌, sym, refl, ap, ◌∙◌, subst, inl, inr, arith}
+use Rattle.std.proofs.Common.{◌≡◌, ℕ, true, ◌&&◌, eqb, List, [], ◌∷◌, ◌++◌, sym, refl, ap, ◌∙◌, subst, inl, inr, arith}
 use Rattle.std.proofs.lemmas.Bool.{cases_eq, cases_Bool, and_parts, and_from, eqb-true, eq-eqb, or_left, or_right, or_cases, both_ways}
 use Rattle.std.proofs.lemmas.Bool.Decides.{nat_tests}
 use Rattle.guides.specs.Meaning.{has, distinct, neighbours, begins_with, ends_with}
@@ -151,32 +151,32 @@ thread_ends f h front p mid q back once t alike =
     let rest = mid ++ q ∷ back in
     let split = thread_split f front p rest t in
     let tail = distinct_back front (p ∷ rest) once in
-    let p-rest = distinct_at_after p front rest once in
-    let q-rest : has q rest ≡ true = has_right q mid (q ∷ back) (has_first q back) in
+    let p_rest = distinct_at_after p front rest once in
+    let q_rest : has q rest ≡ true = has_right q mid (q ∷ back) (has_first q back) in
     let q_back = distinct_at_after q mid back (distinct_tail p rest tail) in
     let in_rest : (y : ℕ) → has y (q ∷ back) ≡ true → has y rest ≡ true = λ y e. has_right y mid (q ∷ back) e in
     let in_all : (y : ℕ) → has y rest ≡ true → has y (front ++ p ∷ rest) ≡ true =
     λ y e. has_right y front (p ∷ rest) (or_right (eqb p y) (has y rest) e) in
-    let not-q : (y : ℕ) → has y (front ++ p ∷ []) ≡ true → y ≡ q → ⊥ =
+    let not_q : (y : ℕ) → has y (front ++ p ∷ []) ≡ true → y ≡ q → ⊥ =
     λ y e i.
     elim (or_cases (has y front) (has y (p ∷ [])) (sym (has_append y front (p ∷ [])) ∙ e)) [
       | inl here ↦
           both_ways _ (distinct_apart y front (p ∷ rest) once here)
-          (or_right (eqb p y) (has y rest) (ap (λ z. has z rest) i ∙ q-rest))
+          (or_right (eqb p y) (has y rest) (ap (λ z. has z rest) i ∙ q_rest))
       | inr here ↦
           let same : p ≡ y = only_first p y here in
-          both_ways _ p-rest (ap (λ z. has z rest) (same ∙ i) ∙ q-rest)
+          both_ways _ p_rest (ap (λ z. has z rest) (same ∙ i) ∙ q_rest)
     ] in (
       frame_front f h front p
           (λ y e.
           alike.after y (has_left y front (p ∷ rest) e)
           (λ i. both_ways _ (distinct_at_before p front rest once) (ap (λ z. has z front) (sym i) ∙ e)))
-          (λ y e. alike.before y (front_part y front p rest e) (not-q y e))
+          (λ y e. alike.before y (front_part y front p rest e) (not_q y e))
           split.0,
       frame_back f h q back
           (λ y e.
           alike.after y (in_all y (in_rest y e))
-          (λ i. both_ways _ p-rest (ap (λ z. has z rest) (sym i) ∙ in_rest y e)))
+          (λ i. both_ways _ p_rest (ap (λ z. has z rest) (sym i) ∙ in_rest y e)))
           (λ y e.
           alike.before y (in_all y (in_rest y (or_right (eqb q y) (has y back) e)))
           (λ i. both_ways _ q_back (ap (λ z. has z back) (sym i) ∙ e)))

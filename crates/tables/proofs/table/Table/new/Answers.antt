@@ -7,4 +7,4 @@ use Rattle.tables.proofs.table.Table.new.Goals as goal
 pub returns : goal.returns
 unfolding opened
 returns c =
-    c.set-after.ensures ∙ ap (λ e. revise 0 (with_after 1) (replicate 1024 e)) c.blank.ensures
+    c.set_after.ensures ∙ ap (λ e. revise 0 (with_after 1) (replicate 1024 e)) c.blank.ensures

@@ -9,12 +9,12 @@ pub returns : goal.returns
 unfolding hung
 returns c =
     let x = c.args.place in
-    c.set-before.ensures
-    ∙ ap (revise c.args.upper (with_before x)) c.set-after.ensures
+    c.set_before.ensures
+    ∙ ap (revise c.args.upper (with_before x)) c.set_after.ensures
     ∙ ap (λ es. revise c.args.upper (with_before x) (revise c.args.lower (with_after x) es)) c.put.ensures
     ∙ ap
     (λ es.
     revise c.args.upper (with_before x)
     (revise c.args.lower (with_after x)
     (revise x (λ _. fresh c.args.parent c.args.lower c.args.upper) es)))
-    c.set-child.ensures
+    c.set_child.ensures

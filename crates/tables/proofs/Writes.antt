@@ -1,8 +1,8 @@
 -- What is read from a table after several writes. Assumes that each write is within the table.
-use Rattle.std.proofs.Common.{◌≡◌, ℕ, ◌<◌, true, false, cond, eqb, ◌⊎◌, List, [], ◌∷◌, ◌++◌, length, set, sym, refl, ap, ◌∙◌, inl, inr, arith, length_set, get_or-set_other, get_or-set_same}
+use Rattle.std.proofs.Common.{◌≡◌, ℕ, ◌<◌, cond, eqb, ◌⊎◌, List, [], ◌∷◌, ◌++◌, length, sym, refl, ap, ◌∙◌, inl, inr, arith, length-set, get_or-set_other, get_or-set_same}
 use Rattle.std.specs.List.{AllByRecursion as All}
 use Rattle.std.proofs.lemmas.Bool.{cond-true, cond-false, cond_both, eq-eqb, ne_eqb}
-use Rattle.std.proofs.lemmas.Bool.Decides.{nat_tests, eqb_tells}
+use Rattle.std.proofs.lemmas.Bool.Decides.{eqb_tells}
 use Rattle.tables.specs.declared.entry.Entry.{Entry}
 use Rattle.tables.specs.Entries.{blank}
 use Rattle.tables.specs.Revisions.{at, revise, revised}
@@ -30,13 +30,13 @@ pub at_revised : (cs : List (ℕ × (Entry → Entry))) (es : List Entry) (n : �
 at_revised [] es n long within y = refl
 at_revised (c ∷ cs) es n long within y =
     let here : c.0 < length es = omega (arith, within.0) in
-    at_revised cs (revise c.0 c.1 es) n (length_set es c.0 (c.1 (at es c.0)) ∙ long) within.1 y
+    at_revised cs (revise c.0 c.1 es) n (length-set es c.0 (c.1 (at es c.0)) ∙ long) within.1 y
     ∙ ap (touched cs y) (at_revise c.0 c.1 es y here)
 
 pub length_revised : (cs : List (ℕ × (Entry → Entry))) (es : List Entry) → length (revised cs es) ≡ length es
 length_revised [] es = refl
 length_revised (c ∷ cs) es =
-    length_revised cs (revise c.0 c.1 es) ∙ length_set es c.0 (c.1 (at es c.0))
+    length_revised cs (revise c.0 c.1 es) ∙ length-set es c.0 (c.1 (at es c.0))
 
 -- ---- which writes reach a place
 

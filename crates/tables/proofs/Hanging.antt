@@ -1,5 +1,5 @@
 -- A table that keeps the rule keeps it when a place is hung between two neighbours. Assumes nothing.
-use Rattle.std.proofs.Common.{◌≡◌, ℕ, ◌<◌, ◌≤◌, Bool, true, false, ◌&&◌, ◌||◌, eqb, ◌⊎◌, List, [], ◌∷◌, ◌++◌, length, sym, refl, ap, ◌∙◌, subst, inl, inr, append_assoc, arith}
+use Rattle.std.proofs.Common.{◌≡◌, ℕ, ◌<◌, ◌≤◌, true, false, List, [], ◌∷◌, ◌++◌, length, sym, refl, ap, ◌∙◌, subst, inl, inr, append_assoc, arith}
 use Rattle.std.proofs.lemmas.Bool.{both_ways}
 use Rattle.std.proofs.lemmas.Bool.Decides.{nat_tests}
 use Rattle.guides.specs.declared.answer.Side.{Side}
@@ -10,8 +10,8 @@ use Rattle.tables.specs.declared.entry.Entry.{Entry}
 use Rattle.tables.specs.Changes.{hanging, hung}
 use Rattle.tables.specs.Entries.{with_child, fresh, with_after, with_before}
 use Rattle.tables.specs.Revisions.{at}
-use Rattle.tables.specs.Shapes.{Shape, bare, node, root, order}
-use Rattle.tables.proofs.Holding.{Holds, meant, parts_of, once_of, nought_of, below_of, high_stands, within_table}
+use Rattle.tables.specs.Shapes.{Shape, bare, node, order}
+use Rattle.tables.proofs.Holding.{Holds, meant, parts_of, once_of, nought_of, below_of, high_stands}
 use Rattle.tables.proofs.Holding.{after_child, before_child}
 use Rattle.tables.proofs.Links.{hang_shows}
 use Rattle.tables.proofs.Orders.{fronts, backs, order_plug, root_plug, above_stands}
@@ -42,7 +42,7 @@ pub record Between (k : Spot) (lower upper : ℕ) : Type 0 where
 module _ (es : List Entry) (n : ℕ) (side : Side) (j : Spot) (q : ℕ) (s : Shape) (x lower upper : ℕ)
     (h : Holds (at es) n (plug (under side j q s) bare)) (sized : length es ≡ 1024) (room : n ≤ 1024)
     (gap : Between (under side j q s) lower upper)
-    (fresh-x : has x (0 ∷ order (plug (under side j q s) bare)) ≡ false) (inside : x < n) where
+    (fresh_x : has x (0 ∷ order (plug (under side j q s) bare)) ≡ false) (inside : x < n) where
   abbrev k : Spot
   k = under side j q s
 
@@ -97,21 +97,21 @@ module _ (es : List Entry) (n : ℕ) (side : Side) (j : Spot) (q : ℕ) (s : Sha
   q_stands = above_stands k bare
 
   x_lower : x ≡ lower → ⊥
-  x_lower = differs x lower (0 ∷ order t) fresh-x lower_stands
+  x_lower = differs x lower (0 ∷ order t) fresh_x lower_stands
 
   x_upper : x ≡ upper → ⊥
-  x_upper = differs x upper (0 ∷ order t) fresh-x upper_stands
+  x_upper = differs x upper (0 ∷ order t) fresh_x upper_stands
 
   x_q : x ≡ q → ⊥
-  x_q = differs x q (0 ∷ order t) fresh-x q_stands
+  x_q = differs x q (0 ∷ order t) fresh_x q_stands
 
   x_hangs : holds x t ≡ false
-  x_hangs = sym (has_order x t) ∙ later_absent x (order t) fresh-x
+  x_hangs = sym (has_order x t) ∙ later_absent x (order t) fresh_x
 
   reads : (y : ℕ) → d y ≡ touched (hanging side q x lower upper) y (f y)
   unfolding hung
   reads y =
-      let q-in = below_of f n t h q q_stands in
+      let q_in = below_of f n t h q q_stands in
       let lower_in = below_of f n t h lower lower_stands in
       let upper_in = below_of f n t h upper upper_stands in
       let within : Within 1024 (hanging side q x lower upper) =
@@ -148,13 +148,13 @@ module _ (es : List Entry) (n : ℕ) (side : Side) (j : Spot) (q : ℕ) (s : Sha
       (inr (λ e. after_child side x e), (inl not_x, (inl not_lower, (inr (λ e. refl), tt))))
 
   before_kept : (y : ℕ) → (y ≡ x → ⊥) → (y ≡ upper → ⊥) → (d y).before ≡ (f y).before
-  before_kept y not_x not-upper =
+  before_kept y not_x not_upper =
       ap (λ (e : Entry). e.before) (reads y)
       ∙ field_kept (λ e. e.before) (hanging side q x lower upper) y (f y)
-      (inr (λ e. before_child side x e), (inl not_x, (inr (λ e. refl), (inl not-upper, tt))))
+      (inr (λ e. before_child side x e), (inl not_x, (inr (λ e. refl), (inl not_upper, tt))))
 
   not_x : (y : ℕ) → has y (0 ∷ order t) ≡ true → y ≡ x → ⊥
-  not_x y e i = differs x y (0 ∷ order t) fresh-x e (sym i)
+  not_x y e i = differs x y (0 ∷ order t) fresh_x e (sym i)
 
   lower_after : (d lower).after ≡ x
   lower_after =
@@ -196,7 +196,7 @@ module _ (es : List Entry) (n : ℕ) (side : Side) (j : Spot) (q : ℕ) (s : Sha
             ∙ h.top_is;
         law =
             ap (λ xs. lawful (record { sequence = xs; places = n })) hung_grows
-            ∙ attached_is_lawful lower x upper (meant n t) h.law fresh-x inside beside;
+            ∙ attached_is_lawful lower x upper (meant n t) h.law fresh_x inside beside;
         shown = shown;
         thread = threads;
         last_is = after_kept 1 (not_x 1 (high_stands f n t h)) high_lower ∙ h.last_is;
