@@ -1,0 +1,5 @@
+pub mod Sides
+pub mod Recorded
+pub mod Marks
+pub mod Balance
+pub mod Evened
