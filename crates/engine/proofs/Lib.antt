@@ -1,4 +1,5 @@
 mod Called
+mod Counted
 mod Made
 mod Mapped
 mod Opening

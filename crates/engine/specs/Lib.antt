@@ -1,3 +1,4 @@
 pub mod Settling
 pub mod Calling
 pub mod Contents
+pub mod Counting

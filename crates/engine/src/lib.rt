@@ -3,7 +3,11 @@
 
 mod advance;
 mod call;
+mod counting;
 mod settle;
+mod tally;
 
 pub use advance::step;
 pub use call::{begin, leave, open};
+pub use counting::counts;
+pub use tally::Counts;

@@ -4,9 +4,10 @@ ghost use Rattle.engine.specs.Calling.{opening};
 ghost use Rattle.play.specs.Booked.{new_places, new_stations, OpensBook, BeginsIn, RunsIn, LeavesIn};
 
 use crate::running::run;
-use engine::{begin, leave, open};
+use engine::{begin, leave};
 use guides::Guide;
 use orders::Ingredient;
+use promises::open;
 use records::{Place, Refusal, Station, Status, Stepped, Work};
 use std::alloc::{AllocError, Global};
 

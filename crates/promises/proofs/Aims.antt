@@ -18,7 +18,7 @@ module _ {K : Type 0} where
     pub work : u.work ≡ t.work
     pub key : u.key ≡ t.key
 
-  goes_not : {P : Type 0} {o x : Outcome K} {u : Task K} → o ≡ x → is_going x ≡ false → o ≡ Goes u → P
+  pub goes_not : {P : Type 0} {o x : Outcome K} {u : Task K} → o ≡ x → is_going x ≡ false → o ≡ Goes u → P
   goes_not e calm h = absurd (true≢false (sym (ap is_going h) ∙ ap is_going e ∙ calm))
 
   goes_so : {o : Outcome K} {t u v : Task K} → o ≡ Goes v → o ≡ Goes u → v.work ≡ t.work → v.key ≡ t.key → SameAim t u

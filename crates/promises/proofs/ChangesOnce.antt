@@ -26,7 +26,7 @@ use Rattle.promises.proofs.Works.{some_injects}
 use Rattle.promises.proofs.Doing.{done_of, is_linking, Ending, ends_so}
 use Rattle.promises.proofs.Once.{end_counts, changed_known}
 
-at_most_one : (p : Phase) → done_of p ≤ 1
+pub at_most_one : (p : Phase) → done_of p ≤ 1
 at_most_one Enter = omega arith
 at_most_one Down = omega arith
 at_most_one Check = omega arith
@@ -140,7 +140,7 @@ module _ {K : Type 0} where
   retires_at_end (Touch.hands_over f oc same) q e = f
 
   -- How a step ended its work.
-  data EndedBy (t : Task K) (a : Answer K) : Type 0 where
+  pub data EndedBy (t : Task K) (a : Answer K) : Type 0 where
     by_yes : done_of t.phase ≡ 1 → is_linking t.phase ≡ false → is_change t.work ≡ true → a ≡ Yes → EndedBy t a
     by_other : done_of t.phase ≡ 0 → is_linking t.phase ≡ false → (a ≡ Yes → is_change t.work ≡ false) → EndedBy t a
 
@@ -155,7 +155,7 @@ module _ {K : Type 0} where
     of_retiring : made.task.phase ≡ StrikeEnd → a ≡ Yes → EndedBy made.task a
     of_retiring ph is = EndedBy.by_yes (ap done_of ph) (ap is_linking ph) (ap is_change (mark_strikes made.task.work (fit StrikeEnd ph))) is
 
-    ended_by : (o : Outcome K) → made.outcome ≡ o → Settling made.mid i made.task o (Ended a n) s' → EndedBy made.task a
+    pub ended_by : (o : Outcome K) → made.outcome ≡ o → Settling made.mid i made.task o (Ended a n) s' → EndedBy made.task a
     ended_by o oc (Settling.goes u e ac se) = let z : ◌≡◌ {A = ℕ} 0 1 = cc ac in absurd (omega arith)
     ended_by o oc (Settling.waits e ac se) = let z : ◌≡◌ {A = ℕ} 0 1 = cc ac in absurd (omega arith)
     ended_by o oc (Settling.ends x e ac se) =

@@ -152,16 +152,16 @@ link_not_mark : {P : Type 0} {p : Phase} → p ≡ Link → p ≡ Mark → P
 link_not_mark e h = let z : ◌≡◌ {A = ℕ} 0 1 = cc in absurd (omega arith)
 
 module _ {K : Type 0} {o : Outcome K} where
-  goes_same : {u v : Task K} → o ≡ Goes v → o ≡ Goes u → u ≡ v
+  pub goes_same : {u v : Task K} → o ≡ Goes v → o ≡ Goes u → u ≡ v
   goes_same e h = cc
 
-  not_goes : {P : Type 0} {u : Task K} (a : Answer K) → o ≡ Ends a → o ≡ Goes u → P
+  pub not_goes : {P : Type 0} {u : Task K} (a : Answer K) → o ≡ Ends a → o ≡ Goes u → P
   not_goes a e h = let z : ◌≡◌ {A = ℕ} 0 1 = cc in absurd (omega arith)
 
-  waits_not_goes : {P : Type 0} {u : Task K} → o ≡ Waits → o ≡ Goes u → P
+  pub waits_not_goes : {P : Type 0} {u : Task K} → o ≡ Waits → o ≡ Goes u → P
   waits_not_goes e h = let z : ◌≡◌ {A = ℕ} 0 1 = cc in absurd (omega arith)
 
-  retires_not_goes : {P : Type 0} {u : Task K} {p : ℕ} → o ≡ Retires p → o ≡ Goes u → P
+  pub retires_not_goes : {P : Type 0} {u : Task K} {p : ℕ} → o ≡ Retires p → o ≡ Goes u → P
   retires_not_goes e h = let z : ◌≡◌ {A = ℕ} 0 1 = cc in absurd (omega arith)
 
   goes_not_ends : {P : Type 0} {u : Task K} (a : Answer K) → o ≡ Goes u → o ≡ Ends a → P

@@ -33,7 +33,7 @@ module _ {K : Type 0} (rank : K → K → Ordering) where
   compared (exact a) k = rank a k
   compared top k = Greater
 
-  less_from_before : (o : Ordering) → is_lt o ≡ true → o ≡ Less
+  pub less_from_before : (o : Ordering) → is_lt o ≡ true → o ≡ Less
   less_from_before Less h = refl
   less_from_before Equal h = cc
   less_from_before Greater h = cc

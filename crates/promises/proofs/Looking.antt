@@ -82,7 +82,7 @@ module _ {K : Type 0} {rank : K → K → Ordering} {s : Sight K} {me : ℕ} {t 
   waits_at_a_lock (Way.first_found x0 x1 x2 x3 x4 x5) e = waits_not x4 refl e
 
 module _ {K : Type 0} (rank : K → K → Ordering) (inv : (b : Book K) → Run rank b → Inv rank (sight_of b)) where
-  waits_so : {m : Sight K} {i : ℕ} {t : Task K} {o : Outcome K} {s' : Sight K} → Settling m i t o Waited s' → o ≡ Waits
+  pub waits_so : {m : Sight K} {i : ℕ} {t : Task K} {o : Outcome K} {s' : Sight K} → Settling m i t o Waited s' → o ≡ Waits
   waits_so (Settling.goes u oc ac se) = let z : ◌≡◌ {A = ℕ} 0 1 = cc in absurd (omega arith)
   waits_so (Settling.waits oc ac se) = oc
   waits_so (Settling.ends x oc ac se) = let z : ◌≡◌ {A = ℕ} 0 1 = cc in absurd (omega arith)

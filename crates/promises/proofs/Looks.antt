@@ -27,14 +27,14 @@ use Rattle.promises.proofs.Aims.{step_keeps_aim}
 use Rattle.promises.proofs.Paces.{Paced, paced_more, paced_few, paces, known_within}
 
 module _ {K : Type 0} (rank : K → K → Ordering) where
-  given_more : {b : Book K} (c : Call K) (a : Reply K) (b' : Book K) (r : Run rank b) (d : Does rank b c a b') (i : ℕ) (x : Bool) → works_in rank b i ≡ true → works_in rank b' i ≡ true
+  pub given_more : {b : Book K} (c : Call K) (a : Reply K) (b' : Book K) (r : Run rank b) (d : Does rank b c a b') (i : ℕ) (x : Bool) → works_in rank b i ≡ true → works_in rank b' i ≡ true
       → is_step_of rank i c a ≡ x → given_steps rank r i + cond x 1 0 ≡ given_steps rank (next c a b' r d) i
   unfolding given_steps
   given_more {b} c a b' r d i x h h' e =
       sym (ap (λ y. for_work rank y (works_in rank b' i) 0 0 (given_steps rank r i + cond (is_step_of rank i c a) 1 0)) h
       ∙ ap (λ y. for_work rank true y 0 0 (given_steps rank r i + cond (is_step_of rank i c a) 1 0)) h' ∙ ap (λ y. given_steps rank r i + cond y 1 0) e)
 
-  given_begun : {b : Book K} (c : Call K) (a : Reply K) (b' : Book K) (r : Run rank b) (d : Does rank b c a b') (i : ℕ) → works_in rank b i ≡ false → works_in rank b' i ≡ true
+  pub given_begun : {b : Book K} (c : Call K) (a : Reply K) (b' : Book K) (r : Run rank b) (d : Does rank b c a b') (i : ℕ) → works_in rank b i ≡ false → works_in rank b' i ≡ true
       → given_steps rank (next c a b' r d) i ≡ 0
   unfolding given_steps
   given_begun {b} c a b' r d i h h' =

@@ -62,7 +62,7 @@ module _ {K : Type 0} (rank : K → K → Ordering) (laws : Laws rank) where
   equal_only Equal h = refl
   equal_only Greater h = cc
 
-  same_as_itself : (xs : List K) → same_keys rank xs xs ≡ true
+  pub same_as_itself : (xs : List K) → same_keys rank xs xs ≡ true
   same_as_itself [] = refl
   same_as_itself (x ∷ xs) = ap (λ o. is_eq o && same_keys rank xs xs) (itself (rank x x) (laws.swaps x x)) ∙ same_as_itself xs
 
@@ -75,7 +75,7 @@ module _ {K : Type 0} (rank : K → K → Ordering) (laws : Laws rank) where
       ap (λ z. z ∷ xs) (laws.same x y (equal_only (rank x y) both.0)) ∙ ap (◌∷◌ y) (same_is_equal xs ys both.1)
 
   -- Keys that differ in one are not the same.
-  more_differs : (k : K) (xs ys : List K) → Adds k xs ys → (same_keys rank xs ys ≡ false) × (same_keys rank ys xs ≡ false)
+  pub more_differs : (k : K) (xs ys : List K) → Adds k xs ys → (same_keys rank xs ys ≡ false) × (same_keys rank ys xs ≡ false)
   more_differs k xs ys more = (by (same_keys rank xs ys) refl, by_back (same_keys rank ys xs) refl)
     where
       by : (b : Bool) → same_keys rank xs ys ≡ b → b ≡ false

@@ -129,7 +129,7 @@ module _ {K : Type 0} where
       go (inl same) = ap is_chained (at_same s.status q (rests w) p same) ∙ rests_off w ∙ sym off ∙ ap (chained s) same
       go (inr other) = ap is_chained (at_other s.status q (rests w) p other)
 
-  others_has : (i j : ℕ) (s : Sight K) (w : List Bool) → Others j s w → i < most_stations → (i ≡ j → ⊥) → is_some (s.task i) ≡ true → get_or w i false ≡ true
+  pub others_has : (i j : ℕ) (s : Sight K) (w : List Bool) → Others j s w → i < most_stations → (i ≡ j → ⊥) → is_some (s.task i) ≡ true → get_or w i false ≡ true
   others_has i j s w others h apart works = some_same (sym (slice_get-get_or w i false (omega (arith, others.many))) ∙ others.each i h ∙ ap (λ b. Some (not b && is_some (s.task i))) (ne_eqb i j apart) ∙ ap Some works)
     where
       some_same : {a b : Bool} → Some a ≡ Some b → a ≡ b

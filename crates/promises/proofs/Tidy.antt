@@ -71,7 +71,7 @@ other_found f (Some t) p h =
     let both = and_parts (f (rung t.phase)) (eqb t.other p) h in
     (t, refl, both.0, eqb-true t.other p both.1)
 
-anyone_found : (w : List Bool) → anyone w ≡ true → (i : ℕ) × (slice_get w i ≡ Some true) × (get_or w i false ≡ true)
+pub anyone_found : (w : List Bool) → anyone w ≡ true → (i : ℕ) × (slice_get w i ≡ Some true) × (get_or w i false ≡ true)
 anyone_found [] h = absurd (false≢true h)
 anyone_found (true ∷ w) h = (0, refl, refl)
 anyone_found (false ∷ w) h = let rest = anyone_found w h in (suc rest.0, rest.1, rest.2)

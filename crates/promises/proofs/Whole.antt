@@ -3,6 +3,7 @@
 use Rattle.std.proofs.Common.{Ordering}
 use Rattle.promises.specs.Books.{Book}
 use Rattle.promises.specs.Promised.{Promises}
+use Rattle.promises.specs.Statuses.{StatusesAreExact}
 use Rattle.promises.specs.Runs.{Run}
 use Rattle.promises.proofs.Laws.{Laws}
 use Rattle.promises.proofs.Sights.{sight_of}
@@ -16,10 +17,10 @@ use Rattle.promises.proofs.ChangesOnce.{changes_once}
 use Rattle.promises.proofs.Truthful.{answers_are_true}
 use Rattle.promises.proofs.Works.{steps_are_counted}
 use Rattle.promises.proofs.Looks.{looks_end}
-use Rattle.promises.proofs.Followed.{nothing_is_damaged, idle_books_are_tidy, statuses_are_true, one_can_go_on}
+use Rattle.promises.proofs.Followed.{nothing_is_damaged, idle_books_are_tidy, statuses_are_true, statuses_are_exact, one_can_go_on}
 
 module _ {K : Type 0} (rank : K → K → Ordering) (laws : Laws rank) (inv : (b : Book K) → Run rank b → Inv rank (sight_of b)) where
-  shows : (b : Book K) → Run rank b → ShowsKeys b
+  pub shows : (b : Book K) → Run rank b → ShowsKeys b
   shows b r = record {
     found = λ k h. let kept = held_is_kept rank laws b.places b.stations b.guide (inv b r) k h in (kept.place, kept.on, kept.unmarked, kept.stands);
     held = λ p k on un is. kept_is_held rank laws b.places b.stations b.guide (inv b r) k (record { place = p; on = on; unmarked = un; stands = is });
@@ -41,3 +42,7 @@ module _ {K : Type 0} (rank : K → K → Ordering) (laws : Laws rank) (inv : (b
 -- The promises are kept in every run, for every lawful order.
 pub promises_kept : {K : Type 0} (rank : K → K → Ordering) → Laws rank → Promises rank
 promises_kept rank laws = all_promises rank laws (λ b r. run_has rank laws r)
+
+-- Every status is told exactly in every run, and the counts add up.
+pub statuses_told : {K : Type 0} (rank : K → K → Ordering) → Laws rank → StatusesAreExact rank
+statuses_told rank laws = statuses_are_exact rank laws (λ b r. run_has rank laws r)

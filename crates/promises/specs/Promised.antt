@@ -9,12 +9,12 @@ use Rattle.records.specs.declared.answer.Refusal.{Refusal}
 use Rattle.records.specs.declared.answer.Refusal.TheVariants.{ShortList}
 use Rattle.records.specs.declared.answer.Stepped.TheVariants.{Moved, Waits, Ended}
 use Rattle.records.specs.declared.record.Place.{Place}
-use Rattle.records.specs.declared.record.Status.{Status}
-use Rattle.records.specs.declared.record.Status.TheVariants.{Free, InHand, Chained, Retired}
+use Rattle.records.specs.declared.record.Status.TheVariants.{InHand, Retired}
 use Rattle.records.specs.declared.record.Task.{Task}
 use Rattle.records.specs.declared.record.Work.{Work}
 use Rattle.records.specs.declared.record.Work.TheVariants.{Put, Strike, Look, First, After}
 use Rattle.engine.specs.Contents.{chain}
+pub use Rattle.engine.specs.Counting.{is_chained, is_retired}
 use Rattle.promises.specs.Books.{Book, keys, work_at}
 use Rattle.promises.specs.Truths.{Adds, TakesAway, Rises, TrueOf}
 use Rattle.promises.specs.Runs.{Call, Reply, Does, Run, works_in, since, given_steps, changed_times, changes_now, step, list, stepped, listed}
@@ -30,19 +30,6 @@ is_change After = false
 -- The answer is a yes to a put or a strike.
 abbrev pub IsChangeDone : {K : Type 0} → Work → Answer K → Type 0
 IsChangeDone work a = (is_change work ≡ true) × (a ≡ Yes)
-
--- The number of places of one status.
-abbrev pub is_retired : Status → Bool
-is_retired Free = false
-is_retired InHand = false
-is_retired Chained = false
-is_retired (Retired waits) = true
-
-abbrev pub is_chained : Status → Bool
-is_chained Free = false
-is_chained InHand = false
-is_chained Chained = true
-is_chained (Retired waits) = false
 
 module _ {K : Type 0} (rank : K → K → Ordering) where
   -- Station i has the work t under way.

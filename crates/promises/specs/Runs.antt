@@ -1,13 +1,18 @@
 -- Runs: any calls, one by one, on a book that was just opened; and what is remembered of each work. Assumes nothing.
-use Rattle.std.specs.Prelude.{◌≡◌, ℕ, ◌+◌, Bool, true, false, cond, not, ◌&&◌, List, [], ◌∷◌, length, is_some, is_ok, Ok, Result, ◌==◌}
+use Rattle.std.specs.Prelude.{◌≡◌, ℕ, ◌+◌, Bool, true, false, cond, not, ◌&&◌, ◌||◌, List, [], ◌∷◌, length, is_some, is_ok, Some, None, Ok, Err, Option, Result, ◌==◌}
 use Rattle.std.specs.declared.cmp.Ordering.{Ordering}
 use Rattle.std.specs.Ordering.{is_eq}
 use Rattle.guides.specs.declared.answer.Mended.{Mended}
+use Rattle.records.specs.declared.answer.Answer.{Answer}
+use Rattle.records.specs.declared.answer.Answer.TheVariants.{Yes, No, Found, Missing, NoRoom}
 use Rattle.records.specs.declared.answer.Refusal.{Refusal}
 use Rattle.records.specs.declared.answer.Stepped.{Stepped}
+use Rattle.records.specs.declared.answer.Stepped.TheVariants.{Moved, Waits, Ended}
 use Rattle.records.specs.declared.record.Place.{Place}
 use Rattle.records.specs.declared.record.Station.{Station}
+use Rattle.records.specs.declared.record.Task.{Task}
 use Rattle.records.specs.declared.record.Work.{Work}
+use Rattle.records.specs.declared.record.Work.TheVariants.{Put, Strike, Look, First, After}
 use Rattle.engine.specs.Calling.{Opened, opening, beginning, Begins, leaving, Leaves, Steps}
 use Rattle.engine.specs.Contents.{listing, Lists}
 use Rattle.promises.specs.Books.{Book, keys, work_at}
@@ -28,6 +33,33 @@ pub data Reply (K : Type 0) : Type 0 where
   left : Result (Unit {0}) Refusal → Reply K
   mended : Mended → Reply K
   listed : Result ℕ Refusal → List K → Reply K
+
+abbrev pub is_strike : Work → Bool
+is_strike Put = false
+is_strike Strike = true
+is_strike Look = false
+is_strike First = false
+is_strike After = false
+
+module _ {K : Type 0} where
+  abbrev pub is_yes : Answer K → Bool
+  is_yes Yes = true
+  is_yes No = false
+  is_yes (Found key) = false
+  is_yes Missing = false
+  is_yes NoRoom = false
+
+  -- The step ended its work with yes.
+  abbrev pub ends_with_yes : Result (Stepped K) Refusal → Bool
+  ends_with_yes (Ok Moved) = false
+  ends_with_yes (Ok Waits) = false
+  ends_with_yes (Ok (Ended a n)) = is_yes a
+  ends_with_yes (Err e) = false
+
+  -- The work is a strike that has taken place p.
+  abbrev pub strikes_place : ℕ → Option (Task K) → Bool
+  strikes_place p None = false
+  strikes_place p (Some t) = is_strike t.work && t.other == p
 
 module _ {K : Type 0} (rank : K → K → Ordering) where
   -- A call on book b answered so and left book b'. This is what the contracts of the calls say, refusals too, of a guide
@@ -114,3 +146,20 @@ module _ {K : Type 0} (rank : K → K → Ordering) where
   unfoldable pub changed_times : {b : Book K} → Run b → ℕ → ℕ
   changed_times (opened most ps ss o e) i = 0
   changed_times (next {b} c a b' r d) i = for_work (works_in b i) (works_in b' i) 0 0 (changed_times r i + changes_now i b c a b')
+
+  -- The call is a step that ended the strike of place p with yes: p is retired by it.
+  abbrev pub retires_now : ℕ → Book K → Call K → Reply K → Bool
+  retires_now p b (begin j work key) a = false
+  retires_now p b (step j) (begun r) = false
+  retires_now p b (step j) (stepped r) = strikes_place p (work_at b j) && ends_with_yes r
+  retires_now p b (step j) (left r) = false
+  retires_now p b (step j) (mended m) = false
+  retires_now p b (step j) (listed r after) = false
+  retires_now p b (leave j) a = false
+  retires_now p b mend a = false
+  retires_now p b (list given) a = false
+
+  -- Place p was retired while the work now under way at station i was under way.
+  unfoldable pub retired_during : {b : Book K} → Run b → ℕ → ℕ → Bool
+  retired_during (opened most ps ss o e) p i = false
+  retired_during (next {b} c a b' r d) p i = for_work (works_in b i) (works_in b' i) false false (retired_during r p i || retires_now p b c a)

@@ -8,15 +8,15 @@ use Rattle.engine.proofs.counting.counts.Goals as goal
 pub loop-i-init : goal.loop-i-init
 loop-i-init g c = none_tallied c.args.places.now
 
-pub with-one-counts-requires : goal.with-one-counts-requires
-with-one-counts-requires g c =
+pub with_one-counts-requires : goal.with_one-counts-requires
+with_one-counts-requires g c =
     let tallied = c.loop-i.invariant in
     (omega (arith, tallied.free.few), (omega (arith, tallied.in_hand.few), (omega (arith, tallied.chained.few), omega (arith, tallied.retired.few))))
 
 pub loop-i-preserved : goal.loop-i-preserved
 loop-i-preserved g c =
-    let one = c.with-one-counts.ensures in
-    one_tallied c.args.places.now c.loop-i.i c.loop-i.counts c.with-one-counts.result c.loop-i.invariant c.loop-i-test.true c.index-places-i.result
+    let one = c.with_one-counts.ensures in
+    one_tallied c.args.places.now c.loop-i.i c.loop-i.counts c.with_one-counts.result c.loop-i.invariant c.loop-i-test.true c.index-places-i.result
     one.free one.in_hand one.chained one.retired
 
 pub returns : goal.returns

@@ -1,8 +1,8 @@
--- The engine's open; that calls make runs, by the laws of the guide; and the promises, by the laws of the order.
+-- The engine's open; that calls make runs, whatever the guide; and the promises, by the laws of the order.
 use Rattle.promises.proofs.Alone.{alone_is_a_set}
 use Rattle.promises.proofs.Laws.{Laws}
 use Rattle.promises.proofs.RunsMade.{calls_make_runs}
-use Rattle.promises.proofs.Whole.{promises_kept}
+use Rattle.promises.proofs.Whole.{promises_kept, statuses_told}
 use Rattle.promises.proofs.opening.open.Given
 use Rattle.promises.proofs.opening.open.Goals as goal
 
@@ -13,7 +13,8 @@ laws g = record { swaps = g.met.K.Order.swaps; chains = g.met.K.Order.chains; sa
 pub returns : goal.returns
 returns g c = record {
   opens = c.«open».ensures;
-  runs = calls_make_runs g.K.Order.rank g.G.Guide.meaning g.G.Guide.starts g.G.Guide.besides g.G.Guide.mends g.met.G.Guide.enters g.met.G.Guide.leads g.G.Guide.most g.met.G.Guide.spares;
+  runs = calls_make_runs g.K.Order.rank g.G.Guide.meaning g.G.Guide.most;
   promises = promises_kept g.K.Order.rank (laws g);
+  statuses = statuses_told g.K.Order.rank (laws g);
   alone = alone_is_a_set g.K.Order.rank (laws g);
 }

@@ -7,7 +7,7 @@ use Rattle.guides.specs.declared.answer.Mended.TheVariants.{Nothing}
 use Rattle.guides.specs.declared.answer.Side.{Side}
 use Rattle.guides.specs.declared.answer.Side.TheVariants.{Lower, Higher}
 use Rattle.guides.specs.Meaning.{Meaning, has, precedes}
-use Rattle.guides.specs.Rules.{AnswersBeside, by_its_rules}
+use Rattle.guides.specs.Rules.{AnswersBeside}
 use Rattle.records.specs.declared.answer.Damage.{Damage}
 use Rattle.records.specs.declared.answer.Refusal.{Refusal}
 use Rattle.records.specs.declared.answer.Refusal.TheVariants.{NoStation}
@@ -111,7 +111,7 @@ module _ {K : Type 0} where
     may_choose First c = true
     may_choose FirstNext c = true
 
-    chooses_so : (phase : Phase) (c : Choice) → may_choose phase c ≡ true → MayChoose by_its_rules m rank ps t phase c
+    chooses_so : (phase : Phase) (c : Choice) → may_choose phase c ≡ true → MayChoose rank me ps m t phase c
     chooses_so Enter c h = h
     chooses_so Down c h = stands_so m.sequence t.at (side_of (standing_at rank ps t.at t.key)) c.beside h
     chooses_so Check c h = tt
@@ -252,7 +252,7 @@ module _ {K : Type 0} where
       begin_does i work key (Ok ss) e = (subst (λ x. Begins x b.stations (Ok tt) ss) (sym e) (refl, refl), refl, refl)
       begin_does i work key (Err r) e = (subst (λ x. Begins x b.stations (Err r) b.stations) (sym e) (refl, refl), refl, refl)
 
-      may_so : (i : ℕ) (c : Choice) (o : Option (Task K)) → may_step i c b o ≡ true → MayChooseBy by_its_rules b.guide rank c b.places o
+      may_so : (i : ℕ) (c : Choice) (o : Option (Task K)) → may_step i c b o ≡ true → MayChooseBy rank c b.places b.stations b.guide i o
       may_so i c None h = tt
       may_so i c (Some t) h = chooses_so rank i b.places b.guide t t.phase c h
 

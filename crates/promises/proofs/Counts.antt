@@ -11,7 +11,7 @@ use Rattle.rules.specs.Putting.{is_free}
 use Rattle.engine.specs.Contents.{field_of, chain}
 use Rattle.engine.specs.Counting.{is_in_hand, is_chained, is_retired, count_of, inner}
 use Rattle.promises.specs.Books.{Book}
-use Rattle.promises.specs.Promised.{CountsAreTrue}
+use Rattle.promises.specs.Statuses.{CountsAreTrue}
 use Rattle.promises.proofs.Laws.{Laws}
 use Rattle.promises.proofs.Sights.{sight_of}
 use Rattle.promises.proofs.Invariant.{Inv, chained}

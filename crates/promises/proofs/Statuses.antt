@@ -13,7 +13,7 @@ use Rattle.rules.specs.Putting.{is_free}
 use Rattle.engine.specs.Contents.{field_of, chain}
 use Rattle.engine.specs.Counting.{is_in_hand, is_chained, is_retired}
 use Rattle.promises.specs.Books.{Book, work_at}
-use Rattle.promises.specs.Promised.{InHands, IsInHand, IsRetired, StatusIsTrue}
+use Rattle.promises.specs.Statuses.{InHands, IsInHand, IsRetired, StatusIsExact}
 use Rattle.promises.specs.Runs.{Run, retired_during}
 use Rattle.promises.proofs.Laws.{Laws}
 use Rattle.promises.proofs.Sights.{Sight, sight_of}
@@ -146,8 +146,8 @@ module _ {K : Type 0} (rank : K → K → Ordering) (laws : Laws rank) (inv : (b
       go Chained e = absurd (true≢false (sym (ap is_chained (seen ∙ e)) ∙ sym on_chain ∙ off))
       go (Retired w) e = absurd (unretired (retires.0 (ap is_retired e)))
 
-  pub status_is_true : StatusIsTrue rank r p x
-  status_is_true = record {
+  pub status_is_exact : StatusIsExact rank r p x
+  status_is_exact = record {
     chained = sym (ap is_chained seen) ∙ sym on_chain;
     in_hand = in_hands;
     retired = retires;

@@ -3,6 +3,7 @@ ghost use Rattle.engine.specs.Calling.{opening, Opens};
 ghost use Rattle.promises.specs.Alone.{AStationAloneFindsASet};
 ghost use Rattle.promises.specs.Made.{CallsMakeRuns};
 ghost use Rattle.promises.specs.Promised.{Promises};
+ghost use Rattle.promises.specs.Statuses.{StatusesAreExact};
 
 use guides::Guide;
 use orders::Order;
@@ -16,8 +17,9 @@ pub fn open<K: Order, G: Guide>(
     guide: &mut G,
 ) -> Result<(), Refusal>
     ensures opens { Opens G.Guide.meaning (opening G.Guide.most places.old stations.old) places.old stations.old guide.old result places.new stations.new guide.new }
-    ensures runs { CallsMakeRuns K.Order.rank G.Guide.most G.Guide.meaning G.Guide.starts G.Guide.besides G.Guide.mends }
+    ensures runs { CallsMakeRuns K.Order.rank G.Guide.most G.Guide.meaning }
     ensures promises { Promises K.Order.rank }
+    ensures statuses { StatusesAreExact K.Order.rank }
     ensures alone { AStationAloneFindsASet K.Order.rank }
 {
     engine::open(places, stations, guide)
