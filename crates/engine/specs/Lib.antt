@@ -2,3 +2,4 @@ pub mod Settling
 pub mod Calling
 pub mod Contents
 pub mod Counting
+pub mod Walking

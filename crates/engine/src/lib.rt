@@ -4,10 +4,14 @@
 mod advance;
 mod call;
 mod counting;
+mod listing;
+mod mending;
 mod settle;
 mod tally;
 
 pub use advance::step;
 pub use call::{begin, leave, open};
 pub use counting::counts;
+pub use listing::list;
+pub use mending::mend;
 pub use tally::Counts;
