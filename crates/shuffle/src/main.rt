@@ -1,4 +1,6 @@
 // Random interleavings of the index against a simple set.
+#![tactic(auto)]
+
 mod book;
 mod calls;
 mod chain;

@@ -8,7 +8,7 @@ use Rattle.records.specs.declared.answer.Stepped.{Stepped}
 use Rattle.records.specs.declared.answer.Stepped.TheVariants.{Moved, Waits, Ended}
 use Rattle.records.specs.declared.record.Work.{Work}
 use Rattle.records.specs.declared.record.Work.TheVariants.{Put, Strike, Look, First, After}
-use Rattle.cases.specs.Desks.{Desk, desk, number, Act, begins, steps, answers}
+use Rattle.cases.specs.Desks.{desk, number, Act, begins, steps, answers}
 
 -- A work that ended with this answer at the n-th of its own steps.
 abbrev pub ended : Answer Ingredient → ℕ → Result (Stepped Ingredient) Refusal

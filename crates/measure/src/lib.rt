@@ -1,4 +1,6 @@
 // Whole works on a filled book, for measuring them from outside: plain numbers in and out.
+#![tactic(auto)]
+
 mod bench;
 
 use bench::Bench;

@@ -1,4 +1,6 @@
 // Worked cases on the plain tree.
+#![tactic(auto)]
+
 ghost use Rattle.std.specs.Prelude.{◌≡◌, true};
 ghost use Rattle.cases.specs.Worked.{WorkedCases};
 

@@ -1,5 +1,5 @@
 -- The worked cases, by computing.
-use Rattle.std.proofs.Common.{◌≡◌, refl}
+use Rattle.std.proofs.Common.{refl}
 use Rattle.tables.specs.Changes.{hung, hung_between, lifted, yielded, parted, unlinked, taken_out}
 use Rattle.engine.specs.Settling.{others_at_work}
 use Rattle.cases.specs.Worked.{OnAnEmptyBook, OnABookOf20, AStruckPlaceWaits}

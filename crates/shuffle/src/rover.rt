@@ -1,8 +1,7 @@
 // A guide over another one whose start wanders: each mend moves it on. So searches begin everywhere, also above their
 // key, which the straight guide never leads to.
-ghost use Rattle.std.specs.Prelude.{◌≡◌};
-ghost use Rattle.shuffle.specs.Roving.{is_end, roving_start};
-ghost use Rattle.shuffle.specs.RoverGuideLemmas.{roves_within};
+ghost use Rattle.std.specs.Prelude.{◌≡◌, true};
+ghost use Rattle.guides.specs.Meaning.{has};
 
 use guides::{Beside, Guide, GuideRefusal, HIGH, Mended, Number, Side};
 
@@ -15,9 +14,9 @@ pub struct Rover<G> {
     places: usize,
 }
 
-// The guide leads no further on this side of the place, which is in its sequence.
+// The guide leads no further on this side of the place, which is then in its sequence.
 fn ends<G: Guide>(guide: &G, place: Number, side: Side) -> bool
-    ensures { result ≡ is_end (G.Guide.besides guide.now place side) }
+    ensures { result ≡ true → has place (G.Guide.meaning guide.now).sequence ≡ true }
 {
     match guide.beside(place, side) {
         Beside::End => true,
@@ -42,19 +41,7 @@ impl<G: Guide> Guide for Rover<G> {
 
     ghost meaning = { λ g. G.Guide.meaning g.inner };
 
-    ghost starts = { λ g. roving_start (G.Guide.besides g.inner) g.from (G.Guide.starts g.inner) };
-
-    ghost besides = { λ g p side. G.Guide.besides g.inner p side };
-
-    ghost mends = { λ g m h. G.Guide.mends g.inner m h.inner };
-
     ghost keeps = { λ r. G.Guide.keeps r.inner };
-
-    ghost enters = { λ r. roves_within (G.Guide.meaning r.inner).sequence (G.Guide.besides r.inner) (G.Guide.leads r.inner) r.from (G.Guide.starts r.inner) (G.Guide.enters r.inner) };
-
-    ghost leads = { λ r. G.Guide.leads r.inner };
-
-    ghost spares = { λ r h. G.Guide.spares r.inner h.inner };
 
     fn limit() -> usize {
         G::limit()

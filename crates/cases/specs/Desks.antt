@@ -1,6 +1,6 @@
 -- The calls played on a book with the plain tree, by the definitions that their contracts name: a work is begun, and its
 -- station is stepped. Assumes nothing.
-use Rattle.std.specs.Prelude.{ℕ, zero, suc, ◌+◌, Bool, true, false, cond, List, [], ◌∷◌, drop, replicate, Some, None, Ok, Err, Option, Result}
+use Rattle.std.specs.Prelude.{ℕ, zero, suc, ◌+◌, cond, List, [], ◌∷◌, drop, replicate, Some, None, Ok, Err, Option, Result}
 use Rattle.orders.specs.declared.number.Ingredient.{Ingredient}
 use Rattle.orders.specs.Ranks.{by_ingredient}
 use Rattle.guides.specs.Meaning.{Meaning, low, high}
@@ -19,8 +19,8 @@ use Rattle.records.specs.declared.record.Place.{Place}
 use Rattle.records.specs.declared.record.Station.{Station}
 use Rattle.records.specs.declared.record.Task.{Task}
 use Rattle.records.specs.declared.record.Work.{Work}
-use Rattle.records.specs.Records.{blank, place}
-use Rattle.rules.specs.Finding.{asked_side}
+use Rattle.records.specs.Records.{blank, place, standing_at}
+use Rattle.rules.specs.Finding.{side_of}
 use Rattle.rules.specs.Putting.{is_free}
 use Rattle.rules.specs.Stepping.{Choice, none_open}
 use Rattle.engine.specs.Calling.{MadeStep, opened_places, opened_stations, task_at, beginning, stepping}
@@ -57,7 +57,7 @@ abbrev pub chosen : Desk → Option (Task Ingredient) → Choice
 chosen d None = none_open
 chosen d (Some t) = record {
   start = high;
-  beside = led_in d.meaning.sequence d.entries t.at (asked_side by_ingredient d.places t);
+  beside = led_in d.meaning.sequence d.entries t.at (side_of (standing_at by_ingredient d.places t.at t.key));
   free = free_from 2 (drop 2 d.places);
 }
 
