@@ -3,6 +3,8 @@
 
     tests/compare.py [COUNT [SEED]]           compares COUNT scripts (2,000), the first made from SEED (1)
     tests/compare.py --store COUNT FOLDER     writes COUNT scripts and the reference's output into a folder
+
+The program does not read the lines list and mend and the guides tree and even yet, so that the comparison fails until it does.
 """
 import pathlib
 import random
@@ -12,7 +14,7 @@ import sys
 from reference import GUIDES, output
 
 HERE = pathlib.Path(__file__).resolve().parent
-PROGRAM = HERE.parent / "target" / "bin" / "torglimuz"
+PROGRAM = HERE.parent / "crates" / "torglimuz" / "out" / "torglimuz"
 NAMES = "call station work key\n"
 WORKS = ("put", "strike", "look", "after")
 BAD = (

@@ -1,8 +1,8 @@
 #!/usr/bin/env python3
 """Plays a script from standard input and prints what the program should print.
 
-Written from docs/RULES.md and docs/FORMATS.md alone, in another language than the program, to be compared with it line
-by line (tests/compare.py). It is slow and plain on purpose.
+Written from docs/RULES.md and docs/FORMATS.md alone, and from the lines list, mend, open S tree P and open S even P, which
+FORMATS.md does not have yet, in another language than the program, to be compared with it line by line (tests/compare.py). It is slow and plain on purpose.
 """
 import re
 import sys

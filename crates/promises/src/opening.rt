@@ -10,7 +10,8 @@ use orders::Order;
 use records::{Place, Refusal, Station};
 
 // Opens a book over these places, stations and guide, as the engine's open does. Whatever calls follow, by any
-// stations in any order, they make a run, and the promises hold of it; a station that works alone finds a sorted set.
+// stations in any order, they make a run, the promises hold of it, and every status is exact; a station that works alone finds a
+// sorted set.
 pub fn open<K: Order, G: Guide>(
     places: &mut [Place<K>],
     stations: &mut [Station<K>],
