@@ -1,12 +1,11 @@
 -- That list writes the contents, key by key, and that it does what it is told by how far it came. Assumes nothing.
-use Rattle.std.proofs.Common.{◌≡◌, ℕ, suc, ◌+◌, ◌-◌, ◌<◌, ◌≤◌, Bool, true, false, cond, eqb, ltb, List, [], ◌∷◌, ◌++◌, length, get_or, take, drop, set, Ok, Err, Result, sym, refl, ap, ◌∙◌, subst, arith}
+use Rattle.std.proofs.Common.{◌≡◌, ℕ, ◌+◌, ◌-◌, ◌<◌, ◌≤◌, false, eqb, ltb, List, [], ◌∷◌, ◌++◌, length, get_or, take, drop, set, Ok, Err, Result, sym, refl, ap, ◌∙◌, subst, arith}
 use Rattle.std.proofs.lemmas.List.{append-nil, append_assoc, take-append-drop, take_more_set, drop-drop, drop-set-lt, length-take-le}
 use Rattle.std.proofs.lemmas.Option.{slice_get-get_or}
 use Rattle.std.proofs.lemmas.Bool.{cond-true, cond-false, lt-ltb, le-ltb, eqb-false}
 use Rattle.guides.specs.Meaning.{low}
 use Rattle.records.specs.declared.answer.Damage.{Damage}
 use Rattle.records.specs.declared.answer.Damage.TheVariants.{NoPlace}
-use Rattle.records.specs.declared.answer.Refusal.{Refusal}
 use Rattle.records.specs.declared.answer.Refusal.TheVariants.{ShortList, Damaged}
 use Rattle.records.specs.declared.record.Place.{Place}
 use Rattle.engine.specs.Contents.{field_of, next_of, reaches_high, contents, listing_by, listing, Lists}

@@ -4,6 +4,8 @@ use Rattle.guides.specs.declared.answer.Beside.{Beside}
 use Rattle.guides.specs.declared.answer.Beside.TheVariants.{Absent, End, Stands}
 use Rattle.guides.specs.declared.answer.GuideRefusal.{GuideRefusal}
 use Rattle.guides.specs.declared.answer.GuideRefusal.TheVariants.{SmallGuide, BadSpot, NotThere}
+use Rattle.guides.specs.declared.answer.Mended.{Mended}
+use Rattle.guides.specs.declared.answer.Mended.TheVariants.{Nothing}
 use Rattle.guides.specs.declared.answer.Side.{Side}
 use Rattle.guides.specs.declared.answer.Side.TheVariants.{Lower, Higher}
 use Rattle.guides.specs.Meaning.{Meaning, low, high, has, precedes, neighbours, with_after, without}
@@ -44,3 +46,7 @@ AnswersBeside xs place side Absent = has place xs ≡ false
 AnswersBeside xs place side End = has place xs ≡ true
 AnswersBeside xs place Lower (Stands found) = precedes found place xs ≡ true
 AnswersBeside xs place Higher (Stands found) = precedes place found xs ≡ true
+
+-- A mend that finds nothing to mend, and leaves the guide as it is.
+abbrev pub NothingMended : {G : Type 0} → G → Mended → G → Type 0
+NothingMended before m after = (m ≡ Nothing) × (after ≡ before)

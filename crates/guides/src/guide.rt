@@ -1,6 +1,7 @@
 // What a guide promises, stated through its meaning alone: a sequence of places from Low to High and the number of
 // places that it was last cleared for.
 ghost use Rattle.std.specs.Prelude.{◌≡◌, ℕ, true};
+ghost use Rattle.guides.specs.declared.answer.Mended.{Mended as MendAnswer};
 ghost use Rattle.guides.specs.Meaning.{Meaning, has, lawful};
 ghost use Rattle.guides.specs.Rules.{cleared, clearing, attaching, detaching, Does, AnswersBeside};
 
@@ -14,6 +15,9 @@ pub trait Guide: Sized {
     ghost most: { ℕ };
 
     ghost meaning: { Self → Meaning };
+
+    // What this guide's mend answers and leaves.
+    ghost mends: { Self → MendAnswer → Self → Type 0 };
 
     fn limit() -> usize
         ensures { result ≡ most };
@@ -44,7 +48,8 @@ pub trait Guide: Sized {
 
     // Makes one small correction of the guide's own, which keeps the meaning.
     fn mend(&mut self) -> Mended
-        ensures { meaning self.new ≡ meaning self.old };
+        ensures spares { meaning self.new ≡ meaning self.old }
+        ensures does { mends self.old result self.new };
 
     ghost keeps: { (g : Self) → lawful (meaning g) ≡ true };
 }

@@ -41,6 +41,9 @@ impl<G: Guide> Guide for Rover<G> {
 
     ghost meaning = { λ g. G.Guide.meaning g.inner };
 
+    // The guide below is mended; the start wanders besides.
+    ghost mends = { λ g m h. G.Guide.mends g.inner m h.inner };
+
     ghost keeps = { λ r. G.Guide.keeps r.inner };
 
     fn limit() -> usize {

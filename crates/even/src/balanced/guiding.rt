@@ -19,6 +19,8 @@ impl Guide for Even {
 
     ghost meaning = { evened };
 
+    ghost mends = { Evens };
+
     ghost keeps = { Prim.search rules };
 
     fn limit() -> usize {

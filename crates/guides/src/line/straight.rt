@@ -2,7 +2,7 @@
 // guides walks the whole sequence from Low.
 ghost use Rattle.std.specs.Prelude.{◌≡◌, ◌≤◌, true, is_some, IfSome, if◌then◌else◌};
 ghost use Rattle.guides.specs.Meaning.{has, neighbours};
-ghost use Rattle.guides.specs.Rules.{cleared, AnswersBeside};
+ghost use Rattle.guides.specs.Rules.{NothingMended, cleared, AnswersBeside};
 ghost use Rattle.guides.specs.Straight.{straight, Holds};
 ghost use Rattle.std.proofs.Common.{rules, arith};
 
@@ -60,6 +60,8 @@ impl Guide for Line {
     ghost most = { 64 };
 
     ghost meaning = { straight };
+
+    ghost mends = { NothingMended };
 
     ghost keeps = { first_of (Prim.search rules, Prim.grind (arith, Self.row.coded.inj)) };
 

@@ -1,7 +1,7 @@
 // The plain tree as a guide. A search starts at High, the root, and goes down from child to child.
 ghost use Rattle.std.specs.Prelude.{◌≡◌, ◌≤◌, Ok, true};
 ghost use Rattle.guides.specs.Meaning.{has, high};
-ghost use Rattle.guides.specs.Rules.{cleared, attaching, detaching, Does, AnswersBeside};
+ghost use Rattle.guides.specs.Rules.{cleared, attaching, detaching, Does, AnswersBeside, NothingMended};
 ghost use Rattle.tables.specs.Changes.{hung_between, taken_out};
 ghost use Rattle.trees.specs.Plain.{plain, plain_beside, entries_of};
 ghost use Rattle.std.proofs.Common.{rules, arith};
@@ -29,6 +29,8 @@ impl Guide for Tree {
     ghost most = { 1024 };
 
     ghost meaning = { plain };
+
+    ghost mends = { NothingMended };
 
     ghost keeps = { first_of (Prim.search rules, Prim.grind (arith, Self.row.coded.inj)) };
 

@@ -1,5 +1,5 @@
 -- Key by key, by where the walk stands.
-use Rattle.std.proofs.Common.{◌≡◌, suc, ◌+◌, ◌-◌, ◌<◌, ◌≤◌, length, get_or, sym, ap, ◌∙◌, subst, arith}
+use Rattle.std.proofs.Common.{◌≡◌, suc, ◌+◌, ◌-◌, ◌<◌, ◌≤◌, length, get_or, sym, ap, subst, arith}
 use Rattle.engine.proofs.Listed.{Copied, nothing_copied, copies_nothing, copies_key, all_copied}
 use Rattle.engine.proofs.Walked.{Walked, keys_within, starts, stands, none_at_high, none_over, left_marked, left_key, passes_marked, passes_key}
 use Rattle.engine.proofs.listing.write_keys.Goals as goal
