@@ -1,8 +1,6 @@
 mod Called
-mod Counted
+mod Filled
 mod Listed
 mod Made
-mod Mapped
-mod Opening
-mod Workers
 mod Walked
+mod Found

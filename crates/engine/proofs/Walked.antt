@@ -1,15 +1,14 @@
 -- The walk along the chain, turn by turn, as list makes it. Assumes nothing.
-use Rattle.std.proofs.Common.{◌≡◌, ℕ, suc, ◌+◌, ◌-◌, ◌<◌, ◌≤◌, true, false, cond, eqb, ltb, List, [], ◌∷◌, length, get_or, Ok, Err, Result, sym, ap, ◌∙◌, arith}
-use Rattle.std.proofs.lemmas.List.{get_or_default}
-use Rattle.std.proofs.lemmas.Option.{slice_get-get_or}
+use Rattle.std.proofs.Common.{◌≡◌, ℕ, suc, ◌+◌, ◌-◌, ◌<◌, ◌≤◌, true, false, cond, eqb, ltb, List, [], ◌∷◌, length, Some, Ok, Err, Result, sym, ap, ◌∙◌, arith}
+use Rattle.std.proofs.lemmas.Option.{slice_get_within}
 use Rattle.std.proofs.lemmas.Bool.{cond-true, cond-false, lt-ltb, le-ltb, eq-eqb, ne_eqb}
 use Rattle.std.specs.List.{slice_get}
 use Rattle.guides.specs.Meaning.{low, high}
 use Rattle.records.specs.declared.answer.Damage.{Damage}
-use Rattle.records.specs.declared.answer.Damage.TheVariants.{NoPlace, Endless}
+use Rattle.records.specs.declared.answer.Damage.TheVariants.{NoPlace}
 use Rattle.records.specs.declared.record.Place.{Place}
 use Rattle.engine.specs.Contents.{field_of, next_of, chain_from, with_key, keys_of, reaches_high}
-use Rattle.engine.specs.Walking.{keys_from, Meets}
+use Rattle.engine.specs.Walking.{keys_from}
 
 module _ {K : Type 0} (ps : List (Place K)) where
   -- The keys that are met from place p on within n places.
@@ -17,9 +16,6 @@ module _ {K : Type 0} (ps : List (Place K)) where
   keys_within n p = keys_of ps (chain_from n ps p)
 
   -- At High the walk is over.
-  reaches_here : (n p : ℕ) → p ≡ high → reaches_high (suc n) ps p ≡ Ok tt
-  reaches_here n p at = cond-true (eqb p high) (Ok tt) _ (eq-eqb p high at)
-
   keys_here : (n p : ℕ) → p ≡ high → keys_within (suc n) p ≡ []
   keys_here n p at = ap (keys_of ps) (cond-true (eqb p high) [] (p ∷ chain_from n ps (next_of ps p)) (eq-eqb p high at))
 
@@ -30,42 +26,29 @@ module _ {K : Type 0} (ps : List (Place K)) where
       ∙ cond-false (ltb p (length ps)) (reaches_high n ps (next_of ps p)) (Err NoPlace) (le-ltb p (length ps) past)
 
   -- At any other place it goes on to the successor.
-  module _ (n p : ℕ) (x : Place K) (off : p ≡ high → ⊥) (within : p < length ps) where
-    next_read : next_of ps p ≡ (get_or ps p x).next
-    next_read = ap (field_of low (λ y. y.next)) (slice_get-get_or ps p x within)
+  module _ (n p : ℕ) (x : Place K) (off : p ≡ high → ⊥) (there : slice_get ps p ≡ Some x) where
+    next_read : next_of ps p ≡ x.next
+    next_read = ap (field_of low (λ y. y.next)) there
 
-    reaches_on : reaches_high (suc n) ps p ≡ reaches_high n ps (get_or ps p x).next
+    reaches_on : reaches_high (suc n) ps p ≡ reaches_high n ps x.next
     reaches_on =
         cond-false (eqb p high) (Ok tt) (cond (ltb p (length ps)) (reaches_high n ps (next_of ps p)) (Err NoPlace)) (ne_eqb p high off)
-        ∙ cond-true (ltb p (length ps)) (reaches_high n ps (next_of ps p)) (Err NoPlace) (lt-ltb p (length ps) within)
+        ∙ cond-true (ltb p (length ps)) (reaches_high n ps (next_of ps p)) (Err NoPlace) (lt-ltb p (length ps) (slice_get_within ps p x there))
         ∙ ap (reaches_high n ps) next_read
 
-    keys_on : keys_within (suc n) p ≡ cond (get_or ps p x).marked (keys_within n (get_or ps p x).next) ((get_or ps p x).key ∷ keys_within n (get_or ps p x).next)
+    keys_on : keys_within (suc n) p ≡ cond x.marked (keys_within n x.next) (x.key ∷ keys_within n x.next)
     keys_on =
         ap (keys_of ps) (cond-false (eqb p high) [] (p ∷ chain_from n ps (next_of ps p)) (ne_eqb p high off))
         ∙ ap (λ q. with_key (slice_get ps p) (keys_within n q)) next_read
-        ∙ ap (λ y. with_key y (keys_within n (get_or ps p x).next)) (slice_get-get_or ps p x within)
+        ∙ ap (λ y. with_key y (keys_within n x.next)) there
 
   -- After so many turns the walk from a place stands at another, with so many keys behind it.
   pub record Walked (from turn at count : ℕ) : Type 0 where
     pub reaches : reaches_high (length ps - turn) ps at ≡ reaches_high (length ps) ps from
     pub meets : count + length (keys_within (length ps - turn) at) ≡ length (keys_from ps from)
     pub few : count ≤ turn
-    pub fits : at < 65536
-
-  pub starts : (from : ℕ) → from < 65536 → Walked from 0 from 0
-  starts from fits =
-      let all : length ps - 0 ≡ length ps = omega arith in
-      let same : length (keys_within (length ps - 0) from) ≡ length (keys_from ps from) = ap (λ n. length (keys_within n from)) all in
-      record { reaches = ap (λ n. reaches_high n ps from) all; meets = omega (arith, same); few = omega arith; fits = fits }
 
   module _ (from turn at count : ℕ) (walked : Walked from turn at count) where
-    pub runs_out : length ps ≤ turn → reaches_high (length ps) ps from ≡ Err Endless
-    runs_out over = let none : length ps - turn ≡ 0 = omega arith in sym walked.reaches ∙ ap (λ n. reaches_high n ps at) none
-
-    pub none_over : length ps ≤ turn → keys_within (length ps - turn) at ≡ []
-    none_over over = let none : length ps - turn ≡ 0 = omega arith in ap (λ n. keys_within n at) none
-
     module _ (more : turn < length ps) where
       one_more : length ps - turn ≡ suc (length ps - (turn + 1))
       one_more = omega arith
@@ -73,15 +56,7 @@ module _ {K : Type 0} (ps : List (Place K)) where
       pub none_at_high : at ≡ high → keys_within (length ps - turn) at ≡ []
       none_at_high here = ap (λ n. keys_within n at) one_more ∙ keys_here (length ps - (turn + 1)) at here
 
-      pub ends_at_high : at ≡ high → Meets ps from count
-      ends_at_high here =
-          let none : length (keys_within (length ps - turn) at) ≡ 0 = ap length (none_at_high here) in
-          record {
-            reached = sym walked.reaches ∙ ap (λ n. reaches_high n ps at) one_more ∙ reaches_here (length ps - (turn + 1)) at here;
-            counted = let m = walked.meets in omega arith;
-          }
-
-      pub finds_no_place : (at ≡ high → ⊥) → length ps ≤ at → reaches_high (length ps) ps from ≡ Err NoPlace
+      finds_no_place : (at ≡ high → ⊥) → length ps ≤ at → reaches_high (length ps) ps from ≡ Err NoPlace
       finds_no_place off past = sym walked.reaches ∙ ap (λ n. reaches_high n ps at) one_more ∙ reaches_nowhere (length ps - (turn + 1)) at off past
 
       -- A walk that reaches High stands on a place.
@@ -91,35 +66,28 @@ module _ {K : Type 0} (ps : List (Place K)) where
           let z : ◌≡◌ {A = ℕ} 0 1 = cc in
           omega arith
 
-      -- The place is read for its mark, its successor and its key, each time with some record that stands in for none.
-      module _ (x y : Place K) (off : at ≡ high → ⊥) (within : at < length ps) where
-        left_on : (z : Place K) → keys_within (length ps - turn) at
-            ≡ cond (get_or ps at x).marked (keys_within (length ps - (turn + 1)) (get_or ps at y).next) ((get_or ps at z).key ∷ keys_within (length ps - (turn + 1)) (get_or ps at y).next)
-        left_on z =
-            ap (λ n. keys_within n at) one_more
-            ∙ keys_on (length ps - (turn + 1)) at x off within
-            ∙ ap (λ p. cond (get_or ps at x).marked (keys_within (length ps - (turn + 1)) p.next) ((get_or ps at x).key ∷ keys_within (length ps - (turn + 1)) p.next)) (get_or_default ps at x y within)
-            ∙ ap (λ p. cond (get_or ps at x).marked (keys_within (length ps - (turn + 1)) (get_or ps at y).next) (p.key ∷ keys_within (length ps - (turn + 1)) (get_or ps at y).next)) (get_or_default ps at x z within)
+      module _ (x : Place K) (off : at ≡ high → ⊥) (there : slice_get ps at ≡ Some x) where
+        left_on : keys_within (length ps - turn) at ≡ cond x.marked (keys_within (length ps - (turn + 1)) x.next) (x.key ∷ keys_within (length ps - (turn + 1)) x.next)
+        left_on = ap (λ n. keys_within n at) one_more ∙ keys_on (length ps - (turn + 1)) at x off there
 
         -- The keys that are left begin with that of the place, unless it is marked.
-        pub left_marked : (get_or ps at x).marked ≡ true → keys_within (length ps - turn) at ≡ keys_within (length ps - (turn + 1)) (get_or ps at y).next
-        left_marked marked = left_on x ∙ cond-true (get_or ps at x).marked _ _ marked
+        pub left_marked : x.marked ≡ true → keys_within (length ps - turn) at ≡ keys_within (length ps - (turn + 1)) x.next
+        left_marked marked = left_on ∙ cond-true x.marked _ _ marked
 
-        pub left_key : (z : Place K) → (get_or ps at x).marked ≡ false → keys_within (length ps - turn) at ≡ (get_or ps at z).key ∷ keys_within (length ps - (turn + 1)) (get_or ps at y).next
-        left_key z unmarked = left_on z ∙ cond-false (get_or ps at x).marked _ _ unmarked
+        pub left_key : x.marked ≡ false → keys_within (length ps - turn) at ≡ x.key ∷ keys_within (length ps - (turn + 1)) x.next
+        left_key unmarked = left_on ∙ cond-false x.marked _ _ unmarked
 
-        module _ (fits : (get_or ps at y).next < 65536) where
-          reaches_more : reaches_high (length ps - (turn + 1)) ps (get_or ps at y).next ≡ reaches_high (length ps) ps from
-          reaches_more = sym (reaches_on (length ps - (turn + 1)) at y off within) ∙ sym (ap (λ n. reaches_high n ps at) one_more) ∙ walked.reaches
+        reaches_more : reaches_high (length ps - (turn + 1)) ps x.next ≡ reaches_high (length ps) ps from
+        reaches_more = sym (reaches_on (length ps - (turn + 1)) at x off there) ∙ sym (ap (λ n. reaches_high n ps at) one_more) ∙ walked.reaches
 
-          pub passes_marked : (get_or ps at x).marked ≡ true → Walked from (turn + 1) (get_or ps at y).next count
-          passes_marked marked =
-              let left : length (keys_within (length ps - turn) at) ≡ length (keys_within (length ps - (turn + 1)) (get_or ps at y).next) = ap length (left_marked marked) in
-              let m = walked.meets in
-              record { reaches = reaches_more; meets = omega arith; few = let f = walked.few in omega arith; fits = fits }
+        pub passes_marked : x.marked ≡ true → Walked from (turn + 1) x.next count
+        passes_marked marked =
+            let left : length (keys_within (length ps - turn) at) ≡ length (keys_within (length ps - (turn + 1)) x.next) = ap length (left_marked marked) in
+            let m = walked.meets in
+            record { reaches = reaches_more; meets = omega arith; few = let f = walked.few in omega arith }
 
-          pub passes_key : (get_or ps at x).marked ≡ false → Walked from (turn + 1) (get_or ps at y).next (count + 1)
-          passes_key unmarked =
-              let left : length (keys_within (length ps - turn) at) ≡ suc (length (keys_within (length ps - (turn + 1)) (get_or ps at y).next)) = ap length (left_key x unmarked) in
-              let m = walked.meets in
-              record { reaches = reaches_more; meets = omega arith; few = let f = walked.few in omega arith; fits = fits }
+        pub passes_key : x.marked ≡ false → Walked from (turn + 1) x.next (count + 1)
+        passes_key unmarked =
+            let left : length (keys_within (length ps - turn) at) ≡ suc (length (keys_within (length ps - (turn + 1)) x.next)) = ap length (left_key unmarked) in
+            let m = walked.meets in
+            record { reaches = reaches_more; meets = omega arith; few = let f = walked.few in omega arith }

@@ -1,6 +1,7 @@
 // One step of a station's work.
 ghost use Rattle.engine.specs.Calling.{Steps};
 
+use crate::seat::Seat;
 use crate::settle::{settle, task_of};
 use guides::Guide;
 use orders::Order;
@@ -17,10 +18,8 @@ pub fn step<K: Order, G: Guide>(
 ) -> Result<Stepped<K>, Refusal>
     ensures { Steps G.Guide.meaning K.Order.rank station places.old stations.old guide.old result places.new stations.new guide.new }
 {
-    let Some(task) = task_of(stations, station)? else {
-        return Err(Refusal::Idle);
-    };
-    let me = station as u8;
-    let outcome = follow_rule(places, guide, me, task)?;
+    let task = task_of(stations, station)?.ok_or(Refusal::Idle)?;
+    let me = Seat::new(station);
+    let outcome = follow_rule(places, guide, me.number, task)?;
     Ok(settle(places, stations, me, task, outcome))
 }

@@ -1,17 +1,20 @@
-// The calls on whole records: open, begin, leave.
+// The calls on whole records: open, begin, leave. Places, stations and guide stay parameters of their own, here and at the
+// other calls, since the caller lends each at each call.
 ghost use Rattle.std.specs.Prelude.{◌≡◌, ◌≤◌, map, length};
-ghost use Rattle.engine.specs.Calling.{bad_count, end_place as end_place_rule, vacated, opened_places, opened_stations, opening, Opens};
-ghost use Rattle.engine.specs.Calling.{beginning, Begins, locked_by as locked_by_rule, holds_lock as holds_lock_of, leaving, Leaves};
+ghost use Rattle.std.specs.List.{list_any};
+ghost use Rattle.engine.specs.Calling.{bad_count, end_place as end_place_of, vacated, opened_places, opened_stations, opening, Opens};
+ghost use Rattle.engine.specs.Calling.{beginning, Begins, locked_by as locked_by_of, leaving, Leaves};
 
-use crate::settle::{MOST_STATIONS, end_work, task_of};
+use crate::seat::Seat;
+use crate::settle::{end_work, task_of};
 use guides::{Guide, GuideRefusal, HIGH, LOW, Number};
 use orders::Order;
-use records::{Place, Refusal, Station, Status, Task, Work, first_phase};
+use records::{MOST_STATIONS, Place, Refusal, Station, Status, Task, Work, first_phase};
 use rules::MOST_PLACES;
 
 // Low or High, unmarked, unlocked and linked to the other both ways.
 fn end_place<K: Order>(other: Number, place: Place<K>) -> Place<K>
-    ensures { result ≡ end_place_rule other place }
+    ensures { result ≡ end_place_of other place }
 {
     Place {
         key: place.key,
@@ -51,12 +54,11 @@ fn open_places<K: Order>(places: &mut [Place<K>])
     places[1] = end_place(LOW, places[1]);
 }
 
+// Each station becomes idle.
 fn open_stations<K: Order>(stations: &mut [Station<K>])
     ensures { stations.new ≡ opened_stations stations.old }
 {
-    for station in stations.iter_mut() {
-        *station = Station { task: None };
-    }
+    stations.fill_with(|| Station { task: None });
 }
 
 // Opens a book over these places, stations and guide. BAD COUNT: the places are not 2 to 1,024, or the stations not
@@ -66,13 +68,13 @@ pub fn open<K: Order, G: Guide>(
     stations: &mut [Station<K>],
     guide: &mut G,
 ) -> Result<(), Refusal>
-    ensures { Opens G.Guide.meaning (opening G.Guide.most places.old stations.old) places.old stations.old guide.old result places.new stations.new guide.new }
+    ensures { Opens G.Guide.meaning (opening G.Guide.CAPACITY places.old stations.old) places.old stations.old guide.old result places.new stations.new guide.new }
 {
     let count = places.len();
     if is_bad_count(count, stations.len()) {
         return Err(Refusal::BadCount);
     }
-    if count > G::limit() {
+    if count > G::CAPACITY {
         return Err(Refusal::Guide(GuideRefusal::SmallGuide));
     }
     guide.clear(count)?;
@@ -85,10 +87,11 @@ pub fn open<K: Order, G: Guide>(
 fn is_bad_count(places: usize, stations: usize) -> bool
     ensures { result ≡ bad_count places stations }
 {
-    places < 2 || places > MOST_PLACES || stations < 1 || stations > MOST_STATIONS
+    !(2..=MOST_PLACES).contains(&places) || !(1..=MOST_STATIONS).contains(&stations)
 }
 
 // Begins a work, with a key that first ignores. NO STATION: there is no such station. BUSY: a work is under way.
+// Station, work and key are three parameters, here and above: the rules of the call name them one by one.
 pub fn begin<K: Order>(
     stations: &mut [Station<K>],
     station: usize,
@@ -117,24 +120,16 @@ pub fn begin<K: Order>(
 
 // Station i holds the lock.
 fn locked_by(i: u8, lock: Option<u8>) -> bool
-    ensures { result ≡ locked_by_rule i lock }
+    ensures { result ≡ locked_by_of i lock }
 {
-    match lock {
-        None => false,
-        Some(holder) => holder == i,
-    }
+    lock == Some(i)
 }
 
 // Station i holds the lock of some place.
 fn holds_lock<K: Order>(places: &[Place<K>], i: u8) -> bool
-    ensures { result ≡ holds_lock_of i places.now }
+    ensures { result ≡ list_any (λ place. locked_by_of i place.lock) places.now }
 {
-    for place in places {
-        if locked_by(i, place.lock) {
-            return true;
-        }
-    }
-    false
+    places.iter().any(|place| locked_by(i, place.lock))
 }
 
 // Ends a work without answer. NO STATION: there is no such station. IDLE: nothing is under way. HOLDS LOCK: the station
@@ -146,11 +141,9 @@ pub fn leave<K: Order>(
 ) -> Result<(), Refusal>
     ensures { Leaves (leaving places.old stations.old station) places.old stations.old result places.new stations.new }
 {
-    let Some(task) = task_of(stations, station)? else {
-        return Err(Refusal::Idle);
-    };
-    let me = station as u8;
-    if holds_lock(places, me) {
+    let task = task_of(stations, station)?.ok_or(Refusal::Idle)?;
+    let me = Seat::new(station);
+    if holds_lock(places, me.number) {
         return Err(Refusal::HoldsLock);
     }
     end_work(places, stations, me, task);

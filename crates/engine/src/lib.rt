@@ -6,6 +6,7 @@ mod call;
 mod counting;
 mod listing;
 mod mending;
+mod seat;
 mod settle;
 mod tally;
 
@@ -14,4 +15,5 @@ pub use call::{begin, leave, open};
 pub use counting::counts;
 pub use listing::list;
 pub use mending::mend;
+pub use rules::MOST_PLACES;
 pub use tally::Counts;

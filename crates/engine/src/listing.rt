@@ -14,45 +14,42 @@ fn count_keys<K: Order>(places: &[Place<K>], from: Number) -> Result<usize, Dama
 {
     let mut at = from;
     let mut count = 0;
-    for turn in 0..places.len() {
+    // A loop, since each place names the next one.
+    for _ in places {
         if at == HIGH {
             return Ok(count);
         }
-        let i = at as usize;
-        if i >= places.len() {
-            return Err(Damage::NoPlace);
-        }
-        let marked = places[i].marked;
+        let Place { marked, next, .. } = *places.get(usize::from(at)).ok_or(Damage::NoPlace)?;
         if !marked {
             count += 1;
         }
-        at = places[i].next;
+        at = next;
     }
     Err(Damage::Endless)
 }
 
 // Writes the keys that the walk from a place on meets into the first of the given ones, where it reaches High and there
-// is room for them.
+// is room for them. A walk beside the one that counts: one for both would take what is done with a key as a closure, with
+// a clause on all its calls, and be longer.
 fn write_keys<K: Order>(places: &[Place<K>], from: Number, keys: &mut [K])
     requires { (reaches_high (length places.now) places.now from ≡ Fine tt) × (length (keys_from places.now from) ≤ length keys.old) }
     ensures { keys.new ≡ keys_from places.now from ++ drop (length (keys_from places.now from)) keys.old }
 {
     let mut at = from;
     let mut count = 0;
-    for step in 0..places.len() {
+    // A loop, since each place names the next one.
+    for _ in places {
         if at == HIGH {
             return;
         }
-        let p = at as usize;
-        if p >= places.len() {
+        let Some(place) = places.get(usize::from(at)) else {
             return;
-        }
-        let marked = places[p].marked;
-        if !marked {
-            keys[count] = places[p].key;
+        };
+        if !place.marked {
+            keys[count] = place.key;
             count += 1;
         }
-        at = places[p].next;
+        at = place.next;
     }
 }
 
@@ -62,14 +59,11 @@ fn write_keys<K: Order>(places: &[Place<K>], from: Number, keys: &mut [K])
 pub fn list<K: Order>(places: &[Place<K>], keys: &mut [K]) -> Result<usize, Refusal>
     ensures { Lists (listing places.now (length keys.old)) keys.old result keys.new }
 {
-    if places.is_empty() {
-        return Err(Refusal::Damaged(Damage::NoPlace));
-    }
-    let from = places[0].next;
-    let count = count_keys(places, from)?;
+    let low = places.first().ok_or(Damage::NoPlace)?;
+    let count = count_keys(places, low.next)?;
     if keys.len() < count {
         return Err(Refusal::ShortList);
     }
-    write_keys(places, from, keys);
+    write_keys(places, low.next, keys);
     Ok(count)
 }

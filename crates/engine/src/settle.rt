@@ -1,15 +1,15 @@
 // What a step does with its station once the rule has decided, and how retired places become free.
+// Places and stations stay two parameters: the caller lends both at each call, so a struct of the two would be made
+// anew in each call only to be taken apart by the functions below, of which most need one of them.
 ghost use Rattle.std.specs.Prelude.{◌≡◌, ◌<◌, map, length, MatchResult, slice_set};
 ghost use Rattle.engine.specs.Calling.{FindsStation, FindsNone};
 ghost use Rattle.records.specs.Records.{written, with_status};
-ghost use Rattle.engine.specs.Settling.{idle, anyone as anyone_of, retired_for as retired_for_rule, without_station as without_station_rule, other_at_work as other_at_work_rule, others_at_work as others_of, awaiting as awaiting_of, after_work as after_work_rule, settled, Settles};
+ghost use Rattle.engine.specs.Settling.{idle, anyone as anyone_of, retired_for as retired_for_of, without_station as without_station_of, other_at_work as other_at_work_of, others_at_work as others_at_work_of, awaiting as awaiting_of, after_work as after_work_of, settled, Settles};
 
+use crate::seat::Seat;
 use guides::Number;
 use orders::Order;
-use records::{Answer, Outcome, Place, Refusal, Station, Status, Stepped, Task};
-
-// The index serves at most so many stations.
-pub const MOST_STATIONS: usize = 16;
+use records::{Answer, MOST_STATIONS, Outcome, Place, Refusal, Station, Status, Stepped, Task};
 
 // The work of a station, if one is under way. NO STATION: there is no such station, or it is not among the first 16.
 pub fn task_of<K: Order>(
@@ -18,28 +18,21 @@ pub fn task_of<K: Order>(
 ) -> Result<Option<Task<K>>, Refusal>
     ensures { MatchResult result (FindsStation stations.now station) (FindsNone stations.now station) }
 {
-    if station >= stations.len() || station >= MOST_STATIONS {
-        return Err(Refusal::NoStation);
-    }
-    let found = stations[station];
+    let mut served = stations.iter().take(MOST_STATIONS);
+    let found = served.nth(station).ok_or(Refusal::NoStation)?;
     Ok(found.task)
 }
 
 // Some station is in the set.
-fn anyone(waits: &[bool; 16]) -> bool
+fn anyone(waits: &[bool; MOST_STATIONS]) -> bool
     ensures { result ≡ anyone_of waits.now }
 {
-    for waiting in waits {
-        if *waiting {
-            return true;
-        }
-    }
-    false
+    waits.contains(&true)
 }
 
 // A place that waits for the works of these stations; it is free where there are none.
-fn retired_for(waits: [bool; 16]) -> Status
-    ensures { result ≡ retired_for_rule waits }
+fn retired_for(waits: [bool; MOST_STATIONS]) -> Status
+    ensures { result ≡ retired_for_of waits }
 {
     if anyone(&waits) {
         Status::Retired(waits)
@@ -48,15 +41,14 @@ fn retired_for(waits: [bool; 16]) -> Status
     }
 }
 
-// The status of a place once the work of station i has ended.
-fn without_station(i: u8, status: Status) -> Status
-    requires { i < 16 }
-    ensures { result ≡ without_station_rule i status }
+// The status of a place once the work of a station has ended.
+fn without_station(seat: Seat, status: Status) -> Status
+    ensures { result ≡ without_station_of seat.number status }
 {
     match status {
         Status::Retired(waits) => {
             let mut left = waits;
-            left[i as usize] = false;
+            left[seat.index()] = false;
             retired_for(left)
         }
         Status::Free | Status::InHand | Status::Chained => status,
@@ -65,38 +57,30 @@ fn without_station(i: u8, status: Status) -> Status
 
 // Station i is another than `me` and has a work under way.
 fn other_at_work<K: Order>(stations: &[Station<K>], me: u8, i: usize) -> bool
-    ensures { result ≡ other_at_work_rule me stations.now i }
+    ensures { result ≡ other_at_work_of me stations.now i }
 {
-    if i == me as usize || i >= stations.len() {
-        return false;
-    }
-    let station = &stations[i];
-    station.task.is_some()
+    i != usize::from(me)
+        && stations
+            .get(i)
+            .is_some_and(|station| station.task.is_some())
 }
 
 // The stations other than `me` that have a work under way.
-fn others_at_work<K: Order>(stations: &[Station<K>], me: u8) -> [bool; 16]
-    ensures { result ≡ others_of me stations.now }
+fn others_at_work<K: Order>(stations: &[Station<K>], me: u8) -> [bool; MOST_STATIONS]
+    ensures { result ≡ others_at_work_of me stations.now }
 {
-    let mut waits = [false; 16];
-    for i in 0..MOST_STATIONS {
-        waits[i] = other_at_work(stations, me, i);
-    }
-    waits
+    std::array::from_fn(|i| other_at_work(stations, me, i))
 }
 
 // The work of a station is told that a place was retired.
 fn awaiting<K: Order>(station: Station<K>) -> Station<K>
     ensures { result ≡ awaiting_of station }
 {
-    match station.task {
-        None => station,
-        Some(task) => Station {
-            task: Some(Task {
-                awaited: true,
-                ..task
-            }),
-        },
+    Station {
+        task: station.task.map(|task| Task {
+            awaited: true,
+            ..task
+        }),
     }
 }
 
@@ -109,15 +93,14 @@ fn await_all<K: Order>(stations: &mut [Station<K>])
     }
 }
 
-// The places once the work of station i has ended: where a place was retired while it was under way, no place waits for
+// The places once the work of a station has ended: where a place was retired while it was under way, no place waits for
 // it any longer, and a place that waits for nobody is free.
-pub fn after_work<K: Order>(places: &mut [Place<K>], i: u8, task: Task<K>)
-    requires { i < 16 }
-    ensures { places.new ≡ after_work_rule i task places.old }
+pub fn after_work<K: Order>(places: &mut [Place<K>], seat: Seat, task: Task<K>)
+    ensures { places.new ≡ after_work_of seat.number task places.old }
 {
     if task.awaited {
         for place in places.iter_mut() {
-            place.status = without_station(i, place.status);
+            place.status = without_station(seat, place.status);
         }
     }
 }
@@ -126,21 +109,22 @@ pub fn after_work<K: Order>(places: &mut [Place<K>], i: u8, task: Task<K>)
 pub fn end_work<K: Order>(
     places: &mut [Place<K>],
     stations: &mut [Station<K>],
-    i: u8,
+    seat: Seat,
     task: Task<K>,
 )
-    requires { (i < 16) × (i < length stations.old) }
-    ensures { (places.new ≡ after_work_rule i task places.old) × (stations.new ≡ slice_set stations.old i idle) }
+    requires { seat.number < length stations.old }
+    ensures { (places.new ≡ after_work_of seat.number task places.old) × (stations.new ≡ slice_set stations.old seat.number idle) }
 {
-    after_work(places, i, task);
-    stations[i as usize] = Station { task: None };
+    after_work(places, seat, task);
+    stations[seat.index()] = Station { task: None };
 }
 
-// Gives a place another status. The key only stands in the contract for a place that is not there.
+// Gives a place another status. The key only stands in the contract for a place that is not there. An index, since the
+// library's clauses do not tell what a slice holds after a write through its get_mut.
 fn set_status<K: Order>(places: &mut [Place<K>], key: K, place: Number, status: Status)
     ensures { places.new ≡ written key place (with_status status) places.old }
 {
-    let i = place as usize;
+    let i = usize::from(place);
     if i < places.len() {
         places[i].status = status;
     }
@@ -150,13 +134,13 @@ fn set_status<K: Order>(places: &mut [Place<K>], key: K, place: Number, status: 
 fn retire<K: Order>(
     places: &mut [Place<K>],
     stations: &mut [Station<K>],
-    me: u8,
+    me: Seat,
     key: K,
     place: Number,
 )
-    ensures { (places.new ≡ written key place (with_status (retired_for_rule (others_of me stations.old))) places.old) × (stations.new ≡ map awaiting_of stations.old) }
+    ensures { (places.new ≡ written key place (with_status (retired_for_of (others_at_work_of me.number stations.old))) places.old) × (stations.new ≡ map awaiting_of stations.old) }
 {
-    let status = retired_for(others_at_work(stations, me));
+    let status = retired_for(others_at_work(stations, me.number));
     await_all(stations);
     set_status(places, key, place, status);
 }
@@ -165,23 +149,23 @@ fn retire<K: Order>(
 pub fn settle<K: Order>(
     places: &mut [Place<K>],
     stations: &mut [Station<K>],
-    me: u8,
+    me: Seat,
     task: Task<K>,
     outcome: Outcome<K>,
 ) -> Stepped<K>
-    requires { (me < 16) × (me < length stations.old) }
-    ensures { Settles (settled me task stations.old outcome places.old) result places.new stations.new }
+    requires { me.number < length stations.old }
+    ensures { Settles (settled me.number task stations.old outcome places.old) result places.new stations.new }
 {
     let steps = task.steps.saturating_add(1);
     match outcome {
         Outcome::Goes(next) => {
-            stations[me as usize] = Station {
+            stations[me.index()] = Station {
                 task: Some(Task { steps, ..next }),
             };
             Stepped::Moved
         }
         Outcome::Waits => {
-            stations[me as usize] = Station {
+            stations[me.index()] = Station {
                 task: Some(Task { steps, ..task }),
             };
             Stepped::Waits

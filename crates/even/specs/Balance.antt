@@ -1,11 +1,12 @@
 -- Which heights are wrong, which places lean, and when nothing is to be mended. Assumes nothing.
-use Rattle.std.specs.Prelude.{◌≡◌, ℕ, Bool, true, false, cond, not, ◌&&◌, ◌||◌, ltb, ◌⊎◌, List, ◌==◌, nat_lt}
+use Rattle.std.specs.Prelude.{◌≡◌, ℕ, ◌<◌, Bool, true, false, cond, not, ◌&&◌, ◌||◌, ◌⊎◌, List, ◌==◌, nat_lt, MatchOption, Option}
 use Rattle.guides.specs.declared.answer.Side.{Side}
 use Rattle.guides.specs.declared.answer.Side.TheVariants.{Lower, Higher}
 use Rattle.guides.specs.Meaning.{has}
 use Rattle.tables.specs.declared.entry.Entry.{Entry}
 use Rattle.tables.specs.Changes.{turned}
-use Rattle.tables.specs.Entries.{child, opposite}
+use Rattle.guides.specs.Sides.{opposite}
+use Rattle.tables.specs.Entries.{child}
 use Rattle.tables.specs.Revisions.{at}
 use Rattle.tables.specs.Shapes.{sequence_of}
 use Rattle.trees.specs.Plain.{can_turn}
@@ -30,6 +31,14 @@ flawed es hs p = nat_lt 0 p && (has p (sequence_of es) && (wrong es hs p Lower |
 -- A place of the tree other than High whose heights differ by 2 or more.
 abbrev pub leaning : List Entry → List Sides → ℕ → Bool
 leaning es hs p = nat_lt 1 p && (has p (sequence_of es) && uneven (sides_at hs p))
+
+-- A place of the table was found that passes a test, or none was, since none does.
+abbrev pub Finds : (ℕ → Bool) → Option ℕ → Type 0
+Finds test found = MatchOption found ((p : ℕ) → p < 1024 → test p ≡ false) (λ p. test p ≡ true)
+
+-- The same of a test whose answers are a relation, as a closure's are.
+unfoldable pub FindsBy : (ℕ → Bool → Type 0) → Option ℕ → Type 0
+FindsBy Tells found = MatchOption found ((p : ℕ) → p < 1024 → Tells p false) (λ p. Tells p true)
 
 -- No place has a wrong side.
 abbrev pub Sound : List Entry → List Sides → Type 0
@@ -61,7 +70,7 @@ bent p es hs = child (lean p hs) (at es p)
 -- The child on the heavier side leans the other way.
 abbrev pub bends_back : ℕ → List Entry → List Sides → Bool
 bends_back p es hs =
-    ltb (side_height (lean p hs) (sides_at hs (bent p es hs)))
+    nat_lt (side_height (lean p hs) (sides_at hs (bent p es hs)))
     (side_height (opposite (lean p hs)) (sides_at hs (bent p es hs)))
 
 -- A place that leans is turned to its heavier side; if the child there leans the other way, that one is turned.

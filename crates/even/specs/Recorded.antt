@@ -7,7 +7,7 @@ use Rattle.even.specs.Sides.{flat, with_height}
 
 -- The heights, place by place.
 abbrev pub recorded : Heights → List Sides
-recorded h = h.sides
+recorded h = h.sides.slots
 
 -- The heights of a place; beyond the table they are flat.
 abbrev pub sides_at : List Sides → ℕ → Sides

@@ -2,14 +2,18 @@
 ghost use Rattle.std.specs.Prelude.{◌≡◌};
 ghost use Rattle.even.specs.Sides.{flat, side_height, with_height, greater, one_more, uneven, heavier};
 
-use guides::Side;
+use guides::{BySide, Side};
+use tables::Slots;
 
+mod dues;
+mod marks;
 mod table;
 
-#[derive(Clone, Copy, PartialEq, Debug)]
+// The two heights of a place.
+// It wraps one BySide: contracts have a word for it, and what is asked of heights alone are its own methods.
+#[derive(Clone, Copy, PartialEq, Eq, Debug)]
 pub struct Sides {
-    pub left: u16,
-    pub right: u16,
+    pub heights: BySide<u16>,
 }
 
 impl Sides {
@@ -17,32 +21,24 @@ impl Sides {
     pub fn flat() -> Sides
         ensures { result ≡ flat }
     {
-        Sides { left: 0, right: 0 }
+        Sides {
+            heights: BySide { left: 0, right: 0 },
+        }
     }
 
     // The height on a side.
     pub fn height(self, side: Side) -> u16
         ensures { result ≡ side_height side self }
     {
-        match side {
-            Side::Lower => self.left,
-            Side::Higher => self.right,
-        }
+        self.heights.get(side)
     }
 
     // The heights with another one on a side.
     pub fn with_height(self, side: Side, height: u16) -> Sides
         ensures { result ≡ with_height side height self }
     {
-        match side {
-            Side::Lower => Sides {
-                left: height,
-                ..self
-            },
-            Side::Higher => Sides {
-                right: height,
-                ..self
-            },
+        Sides {
+            heights: self.heights.with(side, height),
         }
     }
 
@@ -50,16 +46,14 @@ impl Sides {
     pub fn uneven(self) -> bool
         ensures { result ≡ uneven self }
     {
-        let left = u32::from(self.left);
-        let right = u32::from(self.right);
-        left + 1 < right || right + 1 < left
+        self.heights.left.abs_diff(self.heights.right) >= 2
     }
 
     // The side of the greater height, the left one if they are equal.
     pub fn heavier(self) -> Side
         ensures { result ≡ heavier self }
     {
-        if self.left < self.right {
+        if self.heights.left < self.heights.right {
             Side::Higher
         } else {
             Side::Lower
@@ -70,11 +64,7 @@ impl Sides {
     pub fn greater(self) -> u16
         ensures { result ≡ greater self }
     {
-        if self.left < self.right {
-            self.right
-        } else {
-            self.left
-        }
+        self.heights.left.max(self.heights.right)
     }
 }
 
@@ -82,11 +72,11 @@ impl Sides {
 pub fn one_more(height: u16) -> u16
     ensures { result ≡ one_more height }
 {
-    if height < 65535 { height + 1 } else { height }
+    height.saturating_add(1)
 }
 
-// The heights of places 0 to 1023.
+// The heights of places 0 to 1023, read and written slot by slot as the table's entries are.
 #[derive(Drop)]
 pub struct Heights {
-    sides: [Sides; 1024],
+    sides: Slots<Sides>,
 }

@@ -2,5 +2,4 @@ pub mod Sequences
 pub mod Pigeonhole
 pub mod Calls
 pub mod Positions
-pub mod Tables
 pub mod Lines

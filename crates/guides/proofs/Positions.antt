@@ -1,19 +1,20 @@
 -- Where a place stands in a sequence of distinct places, and what putting it in or taking it out does there. Assumes
 -- nothing.
-use Rattle.std.proofs.Common.{◌≡◌, ℕ, zero, suc, ◌+◌, ◌<◌, ◌≤◌, true, false, ◌&&◌, eqb, ltb, List, [], ◌∷◌, ◌++◌, length, get_or, take, drop, sym, refl, ap, ◌∙◌, append_assoc, add-one, arith}
-use Rattle.std.specs.List.{insert, remove}
-use Rattle.std.proofs.lemmas.List.{drop_all, drop_more, take_more, take-append-drop}
+use Rattle.std.proofs.Common.{◌≡◌, ℕ, zero, suc, ◌+◌, ◌<◌, true, false, ◌&&◌, eqb, ltb, List, [], ◌∷◌, ◌++◌, length, get_or, take, drop, sym, refl, ap, ◌∙◌, append_assoc, add-one, arith}
+use Rattle.std.specs.List.{insert, position, position_or_len, remove}
+use Rattle.std.specs.Option.{is_some}
+use Rattle.std.proofs.lemmas.List.{drop_more, take_more, take-append-drop}
 use Rattle.std.proofs.lemmas.Bool.Decides.{nat_tests}
 use Rattle.guides.specs.Meaning.{has, begins_with, neighbours, distinct, with_after, without}
 use Rattle.guides.proofs.Sequences.{distinct_at_before, distinct_at_after, has_append, neighbours_at, with_after_at, without_at}
 
--- A search that passes another place at i finds p only further on.
-pub has_drop_more : (p : ℕ) (xs : List ℕ) (i : ℕ) → i < length xs → (get_or xs i 0 ≡ p → ⊥)
-    → has p (drop (i + 1) xs) ≡ has p (drop i xs)
-has_drop_more p xs i within other = let cut = ap (has p) (drop_more xs i 0 within) in grind (arith, nat_tests)
+-- A search that finds no position of p tells that p is not there.
+position_tells : (p : ℕ) (xs : List ℕ) → ltb (position_or_len (λ x. eqb x p) xs) (length xs) ≡ has p xs
+position_tells p [] = refl
+position_tells p (x ∷ xs) = let rest = position_tells p xs in grind (arith, nat_tests)
 
-pub has_drop_all : (p : ℕ) (xs : List ℕ) (i : ℕ) → length xs ≤ i → has p (drop i xs) ≡ false
-has_drop_all p xs i past = ap (has p) (drop_all i xs past)
+pub is_some-position : (p : ℕ) (xs : List ℕ) → is_some (position (λ x. eqb x p) xs) ≡ has p xs
+is_some-position p xs = let tells = position_tells p xs in grind (arith, nat_tests)
 
 pub begins_with_drop : (q : ℕ) (xs : List ℕ) (i : ℕ)
     → begins_with q (drop i xs) ≡ (ltb i (length xs) && eqb (get_or xs i 0) q)

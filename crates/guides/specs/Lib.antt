@@ -3,3 +3,5 @@ pub mod Labels
 pub mod Rules
 pub mod Lines
 pub mod Straight
+pub mod Sides
+pub mod Pairs

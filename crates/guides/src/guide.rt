@@ -11,16 +11,13 @@ pub trait Guide: Sized {
     // The greatest number of places that the guide holds.
     const CAPACITY: usize;
 
-    // The same number, for clauses, which cannot cite a constant; `limit` ties the two.
-    ghost most: { ℕ };
+    // The same number, for clauses.
+    ghost CAPACITY: { ℕ };
 
     ghost meaning: { Self → Meaning };
 
     // What this guide's mend answers and leaves.
     ghost mends: { Self → MendAnswer → Self → Type 0 };
-
-    fn limit() -> usize
-        ensures { result ≡ most };
 
     // A new guide is as cleared for two places.
     fn new() -> Self
@@ -28,7 +25,7 @@ pub trait Guide: Sized {
 
     // Makes the sequence Low, High, for so many places.
     fn clear(&mut self, places: usize) -> Result<(), GuideRefusal>
-        ensures { Does meaning (clearing most places) self.old result self.new };
+        ensures { Does meaning (clearing CAPACITY places) self.old result self.new };
 
     // Some place of the sequence.
     fn start(&self) -> Number
@@ -39,6 +36,7 @@ pub trait Guide: Sized {
         ensures { AnswersBeside (meaning self.now).sequence place side result };
 
     // Puts a place between two neighbours.
+    // They stay three parameters in every guide: a struct of them would be made at each call only to be taken apart.
     fn attach(&mut self, lower: Number, place: Number, upper: Number) -> Result<(), GuideRefusal>
         ensures { Does meaning (attaching lower place upper (meaning self.old)) self.old result self.new };
 

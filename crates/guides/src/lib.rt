@@ -2,6 +2,7 @@
 #![tactic(auto)]
 
 mod answer;
+mod by_side;
 mod ends;
 mod guide;
 mod line;
@@ -9,6 +10,7 @@ mod line;
 mod tests;
 
 pub use answer::{Beside, GuideRefusal, Mended, Number, Side};
+pub use by_side::BySide;
 pub use ends::{HIGH, LOW};
 pub use guide::Guide;
 pub use line::Line;

@@ -4,18 +4,16 @@ ghost use Rattle.guides.specs.Meaning.{lawful};
 ghost use Rattle.guides.specs.Lines.{line_meaning};
 
 use crate::answer::Number;
+use arrayvec::ArrayVec;
 
-mod edits;
 mod straight;
 
 #[derive(Drop)]
 pub struct Line {
-    // The sequence from Low to High lies in the first `count` positions.
-    order: [Number; 64],
-    count: usize,
+    // The sequence from Low to High. It lies in the guide itself, with room for 64 places.
+    order: ArrayVec<Number, 64>,
     // The number of places that the guide was last cleared for.
     places: usize,
-    ghost counted: { count ≤ 64 },
     ghost bounded: { places ≤ 64 },
-    ghost kept: { lawful (line_meaning order count places) ≡ true },
+    ghost kept: { lawful (line_meaning order.items places) ≡ true },
 }

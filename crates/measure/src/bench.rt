@@ -2,78 +2,58 @@
 use engine::{begin, mend, open, step};
 use guides::{Guide, Mended};
 use orders::Ingredient;
-use records::{Place, Station, Status, Stepped, Work};
+use records::{Place, Refusal, Station, Stepped, Work};
 
-// A work of one station takes far fewer steps.
+// A work of one station takes far fewer steps. Play's runs have the same bound, but measure does not stand on play.
 const MOST_STEPS: u32 = 5000;
 
 const MOST_MENDS: u32 = 100_000;
 
+// A book of records and a guide. Its records lie in arrays, since its C interface hands in no heap.
 #[derive(Drop)]
-pub struct Bench<G> {
-    places: [Place<Ingredient>; 1024],
+pub struct Bench<G, const PLACES: usize> {
+    places: [Place<Ingredient>; PLACES],
     stations: [Station<Ingredient>; 1],
     guide: G,
 }
 
 // The key of a number, in an order that is neither rising nor falling. Keys are even, so that others lie between.
 fn key_of(number: u32, keys: u32) -> u32 {
-    if keys == 0 {
-        return 0;
-    }
-    (number.wrapping_mul(387) % keys)
-        .wrapping_mul(2)
-        .wrapping_add(2)
+    let place = number.wrapping_mul(387).checked_rem(keys);
+    place.map_or(0, |place| place.wrapping_mul(2).wrapping_add(2))
 }
 
-impl<G: Guide> Bench<G> {
-    pub fn new() -> Bench<G> {
-        let place = Place {
-            key: Ingredient(0),
-            next: 0,
-            prev: 0,
-            marked: false,
-            lock: None,
-            status: Status::Free,
-        };
-        Bench {
-            places: [place; 1024],
+impl<G: Guide + Drop, const PLACES: usize> Bench<G, PLACES> {
+    // A new book over a new guide.
+    pub fn open() -> Result<Bench<G, PLACES>, Refusal> {
+        let mut bench = Bench {
+            places: [Place::blank(Ingredient(0)); PLACES],
             stations: [Station { task: None }],
             guide: G::new(),
-        }
+        };
+        open(&mut bench.places, &mut bench.stations, &mut bench.guide)?;
+        Ok(bench)
     }
 
-    // Opens the book for so many places.
-    pub fn open(&mut self, places: usize) -> bool {
-        if places > 1024 {
-            return false;
-        }
-        open(
-            &mut self.places[0..places],
-            &mut self.stations,
-            &mut self.guide,
-        )
-        .is_ok()
+    // Fills the book and has a work done so many times: the own steps of all.
+    pub fn measure(&mut self, work: Work, keys: u32, rounds: u32) -> u64 {
+        self.fill(keys);
+        self.rounds(work, keys, rounds)
     }
 
-    // One work from its begin to its end: its own steps, or 0 if it did not end.
-    fn work(&mut self, places: usize, work: Work, key: u32) -> u64 {
-        if places > 1024 || begin(&mut self.stations, 0, work, Ingredient(key)).is_err() {
-            return 0;
+    // One work from its begin to its end: its own steps, or none if it did not end.
+    fn work(&mut self, work: Work, key: u32) -> Option<u64> {
+        // `is_err`, since with `ok()?` the compiler inlines less, and each step costs 20 to 50 instructions more.
+        if begin(&mut self.stations, 0, work, Ingredient(key)).is_err() {
+            return None;
         }
         for _ in 0..MOST_STEPS {
-            match step(
-                &mut self.places[0..places],
-                &mut self.stations,
-                &mut self.guide,
-                0,
-            ) {
-                Ok(Stepped::Ended(_, steps)) => return steps,
-                Ok(_) => {}
-                Err(_) => return 0,
+            let stepped = step(&mut self.places, &mut self.stations, &mut self.guide, 0).ok()?;
+            if let Stepped::Ended(_, steps) = stepped {
+                return Some(steps);
             }
         }
-        0
+        None
     }
 
     // Mends until nothing is left to mend.
@@ -86,32 +66,32 @@ impl<G: Guide> Bench<G> {
     }
 
     // Puts so many keys, and mends.
-    pub fn fill(&mut self, places: usize, keys: u32) {
+    fn fill(&mut self, keys: u32) {
         for number in 0..keys {
-            let _ = self.work(places, Work::Put, key_of(number, keys));
+            let _ = self.work(Work::Put, key_of(number, keys));
             self.mends();
         }
     }
 
+    // The own steps of these works, one after the other. One that did not end counts for none.
+    fn works(&mut self, works: &[(Work, u32)]) -> u64 {
+        works.iter().fold(0, |steps: u64, (work, key)| {
+            steps.wrapping_add(self.work(*work, *key).unwrap_or(0))
+        })
+    }
+
+    // The three numbers of a measurement are parameters of their own, as the C function is given them.
     // The work, so many times, with one key after the other; a put is followed by the strike of its key, and the other
     // way round. The own steps of all.
-    pub fn rounds(&mut self, places: usize, work: Work, keys: u32, rounds: u32) -> u64 {
-        let mut steps: u64 = 0;
-        for number in 0..rounds {
+    fn rounds(&mut self, work: Work, keys: u32, rounds: u32) -> u64 {
+        (0..rounds).fold(0, |steps: u64, number| {
             let key = key_of(number, keys);
-            steps = steps.wrapping_add(match work {
-                Work::Put => {
-                    let between = key.wrapping_add(1);
-                    let put = self.work(places, Work::Put, between);
-                    put.wrapping_add(self.work(places, Work::Strike, between))
-                }
-                Work::Strike => {
-                    let strike = self.work(places, Work::Strike, key);
-                    strike.wrapping_add(self.work(places, Work::Put, key))
-                }
-                Work::Look | Work::First | Work::After => self.work(places, work, key),
-            });
-        }
-        steps
+            let between = key.wrapping_add(1);
+            steps.wrapping_add(match work {
+                Work::Put => self.works(&[(Work::Put, between), (Work::Strike, between)]),
+                Work::Strike => self.works(&[(Work::Strike, key), (Work::Put, key)]),
+                Work::Look | Work::First | Work::After => self.works(&[(work, key)]),
+            })
+        })
     }
 }

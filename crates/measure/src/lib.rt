@@ -6,10 +6,10 @@ mod bench;
 use bench::Bench;
 use even::Even;
 use guides::{Guide, Line};
-use records::Work;
+use records::{Refusal, Work};
 use trees::Tree;
 
-// The work of a number.
+// The work of a number: C names a work, and a guide below, by a number, since its interface has no enum of ours.
 fn work_of(number: u8) -> Work {
     match number {
         0 => Work::Look,
@@ -20,23 +20,25 @@ fn work_of(number: u8) -> Work {
     }
 }
 
-// Fills a book over a guide and has a work done so many times.
-fn measured<G: Guide + Drop>(places: usize, work: u8, keys: u32, rounds: u32) -> u64 {
-    let mut bench = Bench::<G>::new();
-    if !bench.open(places) {
-        return 0;
-    }
-    bench.fill(places, keys);
-    bench.rounds(places, work_of(work), keys, rounds)
+// The own steps of all rounds together in this book, or 0 if it was not opened.
+fn measured<G: Guide + Drop, const PLACES: usize>(
+    opened: Result<Bench<G, PLACES>, Refusal>,
+    work: Work,
+    keys: u32,
+    rounds: u32,
+) -> u64 {
+    opened.map_or(0, |mut bench| bench.measure(work, keys, rounds))
 }
 
-// The own steps of all rounds together: guide 0 is the straight guide with 64 places, 1 the plain tree and 2 the even tree
-// with 1,024. Works 0 to 2 are look, first and after; 3 and 4 are a put and the strike of its key, counted together.
+// The own steps of all rounds together, or 0 if the book was not opened: guide 0 is the straight guide with 64 places,
+// 1 the plain tree and 2 the even tree with 1,024. Works 0 to 2 are look, first and after; 3 and 4 are a put and the
+// strike of its key, counted together.
 #[unsafe(no_mangle)]
 pub extern "C" fn torglimuz_measure(guide: u8, work: u8, keys: u32, rounds: u32) -> u64 {
+    let work = work_of(work);
     match guide {
-        0 => measured::<Line>(64, work, keys, rounds),
-        1 => measured::<Tree>(1024, work, keys, rounds),
-        _ => measured::<Even>(1024, work, keys, rounds),
+        0 => measured(Bench::<Line, 64>::open(), work, keys, rounds),
+        1 => measured(Bench::<Tree, 1024>::open(), work, keys, rounds),
+        _ => measured(Bench::<Even, 1024>::open(), work, keys, rounds),
     }
 }

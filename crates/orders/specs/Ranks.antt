@@ -3,7 +3,7 @@
 use Rattle.std.specs.declared.cmp.Ordering.{Ordering}
 use Rattle.std.specs.Ordering.{ordering_then, nat_cmp, int_cmp}
 use Rattle.orders.specs.declared.number.Ingredient.{Ingredient}
-use Rattle.orders.specs.declared.number.LotNumber.{LotNumber}
+use Rattle.orders.specs.declared.lot.LotNumber.{LotNumber}
 use Rattle.orders.specs.declared.days.Days.{Days}
 use Rattle.orders.specs.declared.pair.Pair.{Pair}
 

@@ -2,11 +2,13 @@
 #![tactic(auto)]
 
 mod days;
+mod lot;
 mod number;
 mod order;
 mod pair;
 
 pub use days::Days;
-pub use number::{Ingredient, LotNumber};
+pub use lot::LotNumber;
+pub use number::Ingredient;
 pub use order::Order;
 pub use pair::{Lot, Pair};

@@ -5,11 +5,11 @@ ghost use Rattle.orders.specs.Lexical.{first_chains};
 ghost use Rattle.std.proofs.Common.{rules};
 
 use crate::days::Days;
-use crate::number::LotNumber;
+use crate::lot::LotNumber;
 use crate::order::Order;
 use std::cmp::Ordering;
 
-#[derive(Clone, Copy, PartialEq, Debug)]
+#[derive(Clone, Copy, PartialEq, Eq, Debug)]
 pub struct Pair<A, B> {
     pub first: A,
     pub second: B,
@@ -33,9 +33,8 @@ impl<A: Order, B: Order> Order for Pair<A, B> {
     ghost same = { Prim.search rules };
 
     fn compare(self, other: Pair<A, B>) -> Ordering {
-        match self.first.compare(other.first) {
-            Ordering::Equal => self.second.compare(other.second),
-            decided => decided,
-        }
+        self.first
+            .compare(other.first)
+            .then_with(|| self.second.compare(other.second))
     }
 }

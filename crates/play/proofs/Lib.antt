@@ -1,3 +1,1 @@
 mod Calling
-mod Lent
-mod Opens

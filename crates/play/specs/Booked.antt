@@ -11,7 +11,10 @@ use Rattle.records.specs.declared.record.Work.{Work}
 use Rattle.records.specs.Records.{blank}
 use Rattle.engine.specs.Calling.{Opened, beginning, Begins, leaving, Leaves}
 use Rattle.engine.specs.Settling.{idle}
+use Rattle.script.specs.declared.entry.LineRefusal.TheVariants.{BadLine, Call}
 use Rattle.play.specs.declared.book.Book.{Book}
+use Rattle.play.specs.declared.error.PlayError.{PlayError}
+use Rattle.play.specs.declared.error.PlayError.TheVariants.{Refused, OutOfMemory}
 use Rattle.play.specs.Running.{Runs}
 
 abbrev pub ingredient : ℕ → Ingredient
@@ -39,6 +42,13 @@ module _ {G : Type 0} where
     OpensBook (Ok told) (Err refusal) = ⊥
     OpensBook (Err refusal) (Ok b) = ⊥
     OpensBook (Err refusal) (Err r) = r ≡ refusal
+
+    -- Unless memory lacks, a book was opened so. The form of a line is nothing that an open refuses.
+    abbrev pub OpensOrLacks : Result (Opened Ingredient) Refusal → Result (Book G) PlayError → Type 0
+    OpensOrLacks told (Ok b) = OpensBook told (Ok b)
+    OpensOrLacks told (Err (Refused (Call refusal))) = OpensBook told (Err refusal)
+    OpensOrLacks told (Err (Refused BadLine)) = ⊥
+    OpensOrLacks told (Err (OutOfMemory lack)) = Unit {0}
 
     -- Station i of the book ran.
     abbrev pub RunsIn : ℕ → Book G → Result (Stepped Ingredient) Refusal → Book G → Type 0

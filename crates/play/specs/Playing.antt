@@ -15,8 +15,23 @@ use Rattle.script.specs.Commands.{command_of}
 use Rattle.engine.specs.Calling.{opening}
 use Rattle.play.specs.declared.book.Book.{Book}
 use Rattle.play.specs.declared.player.Player.{Player}
-use Rattle.play.specs.declared.player.Player.TheVariants.{Closed, Line as OnLine}
+use Rattle.play.specs.declared.error.PlayError.{PlayError}
+use Rattle.play.specs.declared.error.PlayError.TheVariants.{Refused as RefusedSo, OutOfMemory}
 use Rattle.play.specs.Booked.{new_places, new_stations, OpensBook, BeginsIn, RunsIn, LeavesIn}
+
+-- No book is open.
+abbrev pub closed : Player
+closed = record { book = None }
+
+-- This book is open.
+abbrev pub holding : Book Line → Player
+holding book = record { book = Some book }
+
+-- What a line came to says: a refusal is said too, and only for want of memory nothing is.
+abbrev pub told : Result Said PlayError → Option Said
+told (Ok said) = Some said
+told (Err (RefusedSo refusal)) = Some (Refused refusal)
+told (Err (OutOfMemory lack)) = None
 
 -- What is said of a call by its answer.
 abbrev pub said_begun : Result (Unit {0}) Refusal → Said
@@ -37,7 +52,7 @@ IsBad before said after = (said ≡ Refused BadLine) × (after ≡ before)
 
 -- Open: a book takes the place of the one that stood, or open is refused and that stays.
 abbrev pub OpensWith : Result (Book Line) Refusal → Player → Said → Player → Type 0
-OpensWith (Ok book) before said after = (said ≡ Opened) × (after ≡ OnLine book)
+OpensWith (Ok book) before said after = (said ≡ Opened) × (after ≡ holding book)
 OpensWith (Err refusal) before said after = (said ≡ Refused (Call refusal)) × (after ≡ before)
 
 pub record OpensOver (stations : ℕ) (guide : GuideName) (places : ℕ) (before : Player) (said : Said) (after : Player) : Type 0 where
@@ -51,11 +66,14 @@ pub record CallsOn {R : Type 0} (does : Book Line → R → Book Line → Type 0
   pub book : Book Line
   pub done : does before answer book
   pub shown : said ≡ says answer
-  pub stands : after ≡ OnLine book
+  pub stands : after ≡ holding book
+
+abbrev pub CallsIn : {R : Type 0} → (Book Line → R → Book Line → Type 0) → (R → Said) → Option (Book Line) → Player → Said → Player → Type 0
+CallsIn does says None before said after = IsBad before said after
+CallsIn does says (Some book) before said after = CallsOn does says book said after
 
 abbrev pub Calls : {R : Type 0} → (Book Line → R → Book Line → Type 0) → (R → Said) → Player → Said → Player → Type 0
-Calls does says Closed said after = IsBad Closed said after
-Calls does says (OnLine book) said after = CallsOn does says book said after
+Calls does says before said after = CallsIn does says before.book before said after
 
 -- A command on the player's book.
 abbrev pub Obeys : Command → Player → Said → Player → Type 0

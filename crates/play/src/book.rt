@@ -1,16 +1,18 @@
 // A book: the records and the guide that a script works on.
 ghost use Rattle.std.specs.Prelude.{◌≡◌, replicate, IfOk};
 ghost use Rattle.engine.specs.Calling.{opening};
-ghost use Rattle.play.specs.Booked.{new_places, new_stations, OpensBook, BeginsIn, RunsIn, LeavesIn};
+ghost use Rattle.play.specs.Booked.{new_places, new_stations, OpensOrLacks, BeginsIn, RunsIn, LeavesIn};
 
+use crate::error::PlayError;
 use crate::running::run;
-use engine::{begin, leave};
+use engine::{MOST_PLACES, begin, leave};
 use guides::Guide;
 use orders::Ingredient;
 use promises::open;
-use records::{Place, Refusal, Station, Status, Stepped, Work};
+use records::{MOST_STATIONS, Place, Refusal, Station, Stepped, Work};
 use std::alloc::{AllocError, Global};
 
+// Its records lie on the heap, since a script says how many there are. Beside them it holds only the guide.
 #[derive(Drop)]
 pub struct Book<G> {
     places: Vec<Place<Ingredient>>,
@@ -19,49 +21,38 @@ pub struct Book<G> {
 }
 
 // One record more than the index serves, for a count that open is to refuse.
-const TOO_MANY_PLACES: u32 = 1025;
+// `as` here and below: std has no From between u32 and usize, and try_from would add an error that never comes.
+const TOO_MANY_PLACES: u32 = MOST_PLACES as u32 + 1;
 
-const TOO_MANY_STATIONS: u32 = 17;
+const TOO_MANY_STATIONS: u32 = MOST_STATIONS as u32 + 1;
 
 // A value, so many times.
 pub fn repeated<T: Copy>(heap: Global, value: T, count: u32) -> Result<Vec<T>, AllocError>
     ensures { IfOk result (λ v. v.items ≡ replicate count value) }
 {
-    let mut values = Vec::new(heap);
-    for i in 0..count {
-        values.push(value)?;
-    }
-    Ok(values)
+    (0..count).map(|_| value).collect(heap)
 }
 
-// Opens a book with a new guide, or answers why it was refused. However large the counts are, few records are made.
+// Opens a book with a new guide, or answers why it was refused. However large the counts are, few records are made. The two
+// counts and the memory have no more to do with one another, so they stay three parameters.
 pub fn open_book<G: Guide + Drop>(
     heap: Global,
     stations: u32,
     places: u32,
-) -> Result<Result<Book<G>, Refusal>, AllocError>
-    ensures { IfOk result (OpensBook G.Guide.meaning (opening G.Guide.most (new_places places) (new_stations stations))) }
+) -> Result<Book<G>, PlayError>
+    ensures { OpensOrLacks G.Guide.meaning (opening G.Guide.CAPACITY (new_places places) (new_stations stations)) result }
 {
-    let place = Place {
-        key: Ingredient(0),
-        next: 0,
-        prev: 0,
-        marked: false,
-        lock: None,
-        status: Status::Free,
-    };
+    let place = Place::blank(Ingredient(0));
     let station = Station { task: None };
     let mut places = repeated(heap, place, places.min(TOO_MANY_PLACES))?;
     let mut stations = repeated(heap, station, stations.min(TOO_MANY_STATIONS))?;
     let mut guide = G::new();
-    match open(places.as_mut_slice(), stations.as_mut_slice(), &mut guide) {
-        Ok(()) => Ok(Ok(Book {
-            places,
-            stations,
-            guide,
-        })),
-        Err(refusal) => Ok(Err(refusal)),
-    }
+    open(&mut places, &mut stations, &mut guide)?;
+    Ok(Book {
+        places,
+        stations,
+        guide,
+    })
 }
 
 impl<G: Guide> Book<G> {
@@ -69,12 +60,7 @@ impl<G: Guide> Book<G> {
     pub fn begin(&mut self, station: u32, work: Work, key: u32) -> Result<(), Refusal>
         ensures { BeginsIn station work key self.old result self.new }
     {
-        begin(
-            self.stations.as_mut_slice(),
-            station as usize,
-            work,
-            Ingredient(key),
-        )
+        begin(&mut self.stations, station as usize, work, Ingredient(key))
     }
 
     // Steps a station's work until an end, a wait, a refusal or 5,000 steps.
@@ -83,8 +69,8 @@ impl<G: Guide> Book<G> {
     {
         let worker = station as usize;
         run(
-            self.places.as_mut_slice(),
-            self.stations.as_mut_slice(),
+            &mut self.places,
+            &mut self.stations,
             &mut self.guide,
             worker,
         )
@@ -95,10 +81,6 @@ impl<G: Guide> Book<G> {
         ensures { LeavesIn station self.old result self.new }
     {
         let leaver = station as usize;
-        leave(
-            self.places.as_mut_slice(),
-            self.stations.as_mut_slice(),
-            leaver,
-        )
+        leave(&mut self.places, &mut self.stations, leaver)
     }
 }

@@ -1,83 +1,54 @@
 // Plays the lines of a script, one by one.
-ghost use Rattle.std.specs.Prelude.{◌≡◌, MatchResult};
+ghost use Rattle.std.specs.Prelude.{◌≡◌, MatchOption, MatchResult};
 ghost use Rattle.guides.specs.Straight.{straight};
-ghost use Rattle.script.specs.declared.entry.LineRefusal.TheVariants.{Call};
-ghost use Rattle.script.specs.declared.entry.Said.TheVariants.{Refused};
-ghost use Rattle.play.specs.declared.player.Player.TheVariants.{Closed};
 ghost use Rattle.play.specs.Booked.{BeginsIn, RunsIn, LeavesIn};
-ghost use Rattle.play.specs.Playing.{said_begun, said_ran, said_left, OpensOver, Calls, Plays};
+ghost use Rattle.play.specs.Playing.{closed, said_begun, said_ran, said_left, told, OpensOver, Calls, Plays};
 
 use crate::book::{Book, open_book};
+use crate::error::PlayError;
 use guides::Line;
-use orders::Ingredient;
-use records::{Refusal, Stepped, Work};
+use records::Work;
 use script::{Command, GuideName, LineRefusal, Said, read};
 use std::alloc::{AllocError, Global};
 
 // The book that a script works on, over the guide that it was opened with; none before the first accepted open.
 #[derive(Drop)]
-pub enum Player {
-    Closed,
-    Line(Book<Line>),
-}
-
-fn refused(refusal: Refusal) -> Said
-    ensures { result ≡ Refused (Call refusal) }
-{
-    Said::Refused(LineRefusal::Call(refusal))
-}
-
-fn say_begun(begun: Result<(), Refusal>) -> Said
-    ensures { result ≡ said_begun begun }
-{
-    match begun {
-        Ok(()) => Said::Begun,
-        Err(refusal) => refused(refusal),
-    }
-}
-
-fn say_ran(ran: Result<Stepped<Ingredient>, Refusal>) -> Said
-    ensures { result ≡ said_ran ran }
-{
-    match ran {
-        Ok(stepped) => Said::Ran(stepped),
-        Err(refusal) => refused(refusal),
-    }
-}
-
-fn say_left(left: Result<(), Refusal>) -> Said
-    ensures { result ≡ said_left left }
-{
-    match left {
-        Ok(()) => Said::Left,
-        Err(refusal) => refused(refusal),
-    }
+pub struct Player {
+    book: Option<Book<Line>>,
 }
 
 impl Player {
     // No book is open yet.
     pub fn new() -> Player
-        ensures { result ≡ Closed }
+        ensures { result ≡ closed }
     {
-        Player::Closed
+        Player { book: None }
     }
 
     // Plays one line. A refused open leaves the book that stood.
     pub fn play(&mut self, heap: Global, line: &[u8]) -> Result<Said, AllocError>
         ensures { MatchResult result (λ said. Plays line.now self.old said self.new) (λ _. self.new ≡ self.old) }
     {
-        let Some(command) = read(line) else {
-            return Ok(Said::Refused(LineRefusal::BadLine));
-        };
-        match command {
+        match self.obey(heap, line) {
+            Ok(said) => Ok(said),
+            Err(PlayError::Refused(refusal)) => Ok(Said::Refused(refusal)),
+            Err(PlayError::OutOfMemory(lack)) => Err(lack),
+        }
+    }
+
+    // Does what a line says.
+    fn obey(&mut self, heap: Global, line: &[u8]) -> Result<Said, PlayError>
+        ensures { MatchOption (told result) (self.new ≡ self.old) (λ said. Plays line.now self.old said self.new) }
+    {
+        match read(line).ok_or(LineRefusal::BadLine)? {
             Command::Open {
                 stations,
                 guide,
                 places,
             } => self.open(heap, stations, guide, places),
-            Command::Begin { station, work, key } => Ok(self.begin(station, work, key)),
-            Command::Run { station } => Ok(self.run(station)),
-            Command::Leave { station } => Ok(self.leave(station)),
+            Command::Begin { station, work, key } => self.begin(station, work, key),
+            Command::Run { station } => self.run(station),
+            Command::Leave { station } => self.leave(station),
         }
     }
 
@@ -87,44 +58,35 @@ impl Player {
         stations: u32,
         guide: GuideName,
         places: u32,
-    ) -> Result<Said, AllocError>
-        ensures { MatchResult result (λ said. OpensOver stations guide places self.old said self.new) (λ _. self.new ≡ self.old) }
+    ) -> Result<Said, PlayError>
+        ensures { MatchOption (told result) (self.new ≡ self.old) (λ said. OpensOver stations guide places self.old said self.new) }
     {
-        match guide {
-            GuideName::Line => match open_book(heap, stations, places)? {
-                Ok(book) => {
-                    *self = Player::Line(book);
-                    Ok(Said::Opened)
-                }
-                Err(refusal) => Ok(refused(refusal)),
-            },
-        }
+        self.book = match guide {
+            GuideName::Line => Some(open_book(heap, stations, places)?),
+        };
+        Ok(Said::Opened)
     }
 
-    fn begin(&mut self, station: u32, work: Work, key: u32) -> Said
-        ensures { Calls (BeginsIn station work key) said_begun self.old result self.new }
+    fn begin(&mut self, station: u32, work: Work, key: u32) -> Result<Said, PlayError>
+        ensures { MatchOption (told result) (self.new ≡ self.old) (λ said. Calls (BeginsIn station work key) said_begun self.old said self.new) }
     {
-        match self {
-            Player::Closed => Said::Refused(LineRefusal::BadLine),
-            Player::Line(book) => say_begun(book.begin(station, work, key)),
-        }
+        let book = self.book.as_mut().ok_or(LineRefusal::BadLine)?;
+        book.begin(station, work, key)?;
+        Ok(Said::Begun)
     }
 
-    fn run(&mut self, station: u32) -> Said
-        ensures { Calls (RunsIn straight station) said_ran self.old result self.new }
+    fn run(&mut self, station: u32) -> Result<Said, PlayError>
+        ensures { MatchOption (told result) (self.new ≡ self.old) (λ said. Calls (RunsIn straight station) said_ran self.old said self.new) }
     {
-        match self {
-            Player::Closed => Said::Refused(LineRefusal::BadLine),
-            Player::Line(book) => say_ran(book.run(station)),
-        }
+        let book = self.book.as_mut().ok_or(LineRefusal::BadLine)?;
+        Ok(Said::Ran(book.run(station)?))
     }
 
-    fn leave(&mut self, station: u32) -> Said
-        ensures { Calls (LeavesIn station) said_left self.old result self.new }
+    fn leave(&mut self, station: u32) -> Result<Said, PlayError>
+        ensures { MatchOption (told result) (self.new ≡ self.old) (λ said. Calls (LeavesIn station) said_left self.old said self.new) }
     {
-        match self {
-            Player::Closed => Said::Refused(LineRefusal::BadLine),
-            Player::Line(book) => say_left(book.leave(station)),
-        }
+        let book = self.book.as_mut().ok_or(LineRefusal::BadLine)?;
+        book.leave(station)?;
+        Ok(Said::Left)
     }
 }

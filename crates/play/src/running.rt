@@ -9,7 +9,8 @@ use records::{Place, Refusal, Station, Stepped};
 // A run takes at most so many steps.
 pub const MOST_STEPS: u32 = 5000;
 
-// Steps a station's work until an end, a wait, a refusal or 5,000 steps.
+// Steps a station's work until an end, a wait, a refusal or 5,000 steps. Places, stations and guide are three
+// parameters, as at the calls of the engine, whose caller lends each by itself.
 pub fn run<K: Order, G: Guide>(
     places: &mut [Place<K>],
     stations: &mut [Station<K>],
@@ -21,8 +22,7 @@ pub fn run<K: Order, G: Guide>(
     for taken in 0..MOST_STEPS {
         match step(places, stations, guide, station)? {
             Stepped::Moved => {}
-            Stepped::Waits => return Ok(Stepped::Waits),
-            Stepped::Ended(answer, steps) => return Ok(Stepped::Ended(answer, steps)),
+            stopped => return Ok(stopped),
         }
     }
     Ok(Stepped::Moved)

@@ -12,6 +12,7 @@ use Rattle.records.specs.declared.record.Place.{Place}
 use Rattle.records.specs.declared.record.Station.{Station}
 use Rattle.engine.specs.Contents.{next_of, chain_from, chain, reaches_high}
 use Rattle.promises.specs.Promised.{is_chained}
+use Rattle.promises.proofs.Small.{same_bool}
 use Rattle.promises.proofs.Laws.{Laws, Bound, bottom, exact, top, before, before_not_self, before_chains, before_once}
 use Rattle.promises.proofs.Sights.{Sight, sight}
 use Rattle.promises.proofs.Invariant.{Inv, chained, Rising}
@@ -176,11 +177,6 @@ module _ {K : Type 0} (rank : K → K → Ordering) (laws : Laws rank) (s : Sigh
             let only : has p xs ≡ true → chained s p ≡ true = λ k. (walk_chained xs (s.next low) w p k).0 in
             let same : has p xs ≡ chained s p = same_bool (has p xs) (chained s p) only all in
             grind (arith, nat_tests)
-          where
-            same_bool : (a b : Bool) → (a ≡ true → b ≡ true) → (b ≡ true → a ≡ true) → a ≡ b
-            same_bool true b f g = sym (f refl)
-            same_bool false true f g = g refl
-            same_bool false false f g = refl
 
 -- ---- the chain of the places
 
@@ -256,13 +252,8 @@ module _ {K : Type 0} (rank : K → K → Ordering) (laws : Laws rank) (ps : Lis
 
   pub chain_has : (p : ℕ) → 2 ≤ p → has p (chain ps) ≡ chained (sight ps ss m) p
   chain_has p two =
-      same (has p (chain ps)) (chained (sight ps ss m) p) (λ h. (chain_inner p h).0)
+      same_bool (has p (chain ps)) (chained (sight ps ss m) p) (λ h. (chain_inner p h).0)
       (λ h. walk_all rank laws (sight ps ss m) inv (chain ps) chain_walks p h (λ e. omega arith) (λ e. omega arith))
-    where
-      same : (a b : Bool) → (a ≡ true → b ≡ true) → (b ≡ true → a ≡ true) → a ≡ b
-      same true b f g = sym (f refl)
-      same false true f g = g refl
-      same false false f g = refl
 
   pub chain_distinct : distinct (chain ps) ≡ true
   chain_distinct = go (chain ps) chain_rises

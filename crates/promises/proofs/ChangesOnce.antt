@@ -15,13 +15,14 @@ use Rattle.records.specs.declared.record.Work.TheVariants.{Put, Strike, Look, Fi
 use Rattle.promises.specs.Books.{Book, keys}
 use Rattle.promises.specs.Promised.{is_change, IsChangeDone, EndsWith, ChangesOnce}
 use Rattle.promises.specs.Runs.{Run, step, stepped, same_keys, changes_now, changed_times}
+use Rattle.promises.proofs.Passes.{clash}
+use Rattle.promises.proofs.Small.{fits_put, fits_strike}
 use Rattle.promises.proofs.Laws.{Laws}
 use Rattle.promises.proofs.Sights.{Sight, sight_of}
 use Rattle.promises.proofs.Settles.{Settling}
 use Rattle.promises.proofs.Accepted.{Made, accepted_step_made}
 use Rattle.promises.proofs.Invariant.{Inv, group, fits}
-use Rattle.promises.proofs.Touches.{Touch, is_retiring, way_touches}
-use Rattle.promises.proofs.OwnKeys.{link_puts, mark_strikes}
+use Rattle.promises.proofs.Touches.{Touch, way_touches}
 use Rattle.promises.proofs.Works.{some_injects}
 use Rattle.promises.proofs.Doing.{done_of, is_linking, Ending, ends_so}
 use Rattle.promises.proofs.Once.{end_counts, changed_known}
@@ -126,9 +127,6 @@ reads_undone After First f h = absurd (true≢false (sym f))
 reads_undone After FirstNext f h = absurd (true≢false (sym f))
 
 module _ {K : Type 0} where
-  clash : {P : Type 0} {o : Outcome K} {q : ℕ} → is_retiring o ≡ false → o ≡ Retires q → P
-  clash calm e = absurd (true≢false (sym (ap is_retiring e) ∙ calm))
-
   -- Only the end of a strike retires a place.
   retires_at_end : {s : Sight K} {t : Task K} {o : Outcome K} {s' : Sight K} → Touch s t o s' → (q : ℕ) → o ≡ Retires q → t.phase ≡ StrikeEnd
   retires_at_end (Touch.stays calm same) q e = clash calm e
@@ -149,11 +147,11 @@ module _ {K : Type 0} where
     fit p e = sym (ap (λ q. fits made.task.work (group q)) e) ∙ inv.fit i made.task made.under_way
 
     of_ending : is_linking made.task.phase ≡ false → Ending made.task a → EndedBy made.task a
-    of_ending still (Ending.put_done ph is) = EndedBy.by_yes (ap done_of ph) still (ap is_change (link_puts made.task.work (fit PutEnd ph))) is
+    of_ending still (Ending.put_done ph is) = EndedBy.by_yes (ap done_of ph) still (ap is_change (fits_put made.task.work (fit PutEnd ph))) is
     of_ending still (Ending.unchanged undone reads) = EndedBy.by_other undone still reads
 
     of_retiring : made.task.phase ≡ StrikeEnd → a ≡ Yes → EndedBy made.task a
-    of_retiring ph is = EndedBy.by_yes (ap done_of ph) (ap is_linking ph) (ap is_change (mark_strikes made.task.work (fit StrikeEnd ph))) is
+    of_retiring ph is = EndedBy.by_yes (ap done_of ph) (ap is_linking ph) (ap is_change (fits_strike made.task.work (fit StrikeEnd ph))) is
 
     pub ended_by : (o : Outcome K) → made.outcome ≡ o → Settling made.mid i made.task o (Ended a n) s' → EndedBy made.task a
     ended_by o oc (Settling.goes u e ac se) = let z : ◌≡◌ {A = ℕ} 0 1 = cc ac in absurd (omega arith)

@@ -1,5 +1,5 @@
 -- How the phase of a work tells whether it has changed the keys yet, over every way that a rule can go. Assumes nothing.
-use Rattle.std.proofs.Common.{◌≡◌, ℕ, Bool, true, false, Ordering, sym, refl, ap, ◌∙◌, true≢false, arith}
+use Rattle.std.proofs.Common.{◌≡◌, ℕ, Bool, true, false, Ordering, sym, refl, ap, ◌∙◌, arith}
 use Rattle.records.specs.declared.answer.Answer.{Answer}
 use Rattle.records.specs.declared.answer.Answer.TheVariants.{Yes}
 use Rattle.records.specs.declared.outcome.Outcome.{Outcome}
@@ -12,6 +12,7 @@ use Rattle.records.specs.declared.record.Work.{Work}
 use Rattle.records.specs.declared.record.Work.TheVariants.{Put, Strike, Look, First as FirstWork, After}
 use Rattle.records.specs.Records.{into, first_phase}
 use Rattle.promises.specs.Promised.{is_change}
+use Rattle.promises.proofs.Small.{true_and_false, link_not_mark}
 use Rattle.promises.proofs.Sights.{Sight, next_put, mark_put, status_put}
 use Rattle.promises.proofs.Views.{Way, Strays}
 
@@ -117,15 +118,12 @@ after_linking StrikeEnd h = refl
 after_linking First h = refl
 after_linking FirstNext h = refl
 
-starts_undone : (w : Work) → done_of (first_phase w) ≡ 0
-starts_undone Put = refl
-starts_undone Strike = refl
-starts_undone Look = refl
-starts_undone FirstWork = refl
-starts_undone After = refl
-
 pub begins_undone : (w : Work) → done_of (first_phase w) ≡ 0
-begins_undone w = starts_undone w
+begins_undone Put = refl
+begins_undone Strike = refl
+begins_undone Look = refl
+begins_undone FirstWork = refl
+begins_undone After = refl
 
 stray_undone : {w : Work} {p : Phase} → Strays w p → done_of (first_phase w) ≡ done_after p
 stray_undone Strays.first_back = refl
@@ -144,12 +142,6 @@ stray_still Strays.first_on = refl
 stray_still Strays.look_valid = refl
 stray_still Strays.first_valid = refl
 stray_still Strays.after_valid = refl
-
-never : {P : Type 0} {b : Bool} → b ≡ true → b ≡ false → P
-never h k = absurd (true≢false (sym h ∙ k))
-
-link_not_mark : {P : Type 0} {p : Phase} → p ≡ Link → p ≡ Mark → P
-link_not_mark e h = let z : ◌≡◌ {A = ℕ} 0 1 = cc in absurd (omega arith)
 
 module _ {K : Type 0} {o : Outcome K} where
   pub goes_same : {u v : Task K} → o ≡ Goes v → o ≡ Goes u → u ≡ v
@@ -247,112 +239,112 @@ module _ {K : Type 0} {rank : K → K → Ordering} {s : Sight K} {me : ℕ} {t 
 
   -- LINK and MARK go just one way.
   pub at_link : Way rank s me t o s' → t.phase ≡ Link → (o ≡ Goes (into LinkBack t)) × (s' ≡ status_put t.other Chained (next_put t.at t.other s))
-  at_link (Way.strays x0 x1 x2) ph = never (ap is_linking ph) (stray_still x0)
-  at_link (Way.enters x0 x1 x2 x3 x4) ph = never (ap is_linking ph) (ap is_linking x0)
-  at_link (Way.down_here x0 x1 x2 x3) ph = never (ap is_linking ph) (ap is_linking x0)
-  at_link (Way.down_lost x0 x1 x2 x3) ph = never (ap is_linking ph) (ap is_linking x0)
-  at_link (Way.down_last x0 x1 x2 x3 x4 x5 x6) ph = never (ap is_linking ph) (ap is_linking x0)
-  at_link (Way.down_on x0 x1 x2 x3 x4 x5 x6) ph = never (ap is_linking ph) (ap is_linking x0)
-  at_link (Way.check_marked x0 x1 x2 x3) ph = never (ap is_linking ph) (ap is_linking x0)
-  at_link (Way.check_unmarked x0 x1 x2 x3) ph = never (ap is_linking ph) (ap is_linking x0)
-  at_link (Way.back_look_yes x0 x1 x2 x3 x4 x5) ph = never (ap is_linking ph) (ap is_linking x0)
-  at_link (Way.back_look_marked x0 x1 x2 x3 x4 x5) ph = never (ap is_linking ph) (ap is_linking x0)
-  at_link (Way.back_look_above x0 x1 x2 x3 x4) ph = never (ap is_linking ph) (ap is_linking x0)
-  at_link (Way.back_look_on x0 x1 x2 x3 x4) ph = never (ap is_linking ph) (ap is_linking x0)
-  at_link (Way.back_after_above x0 x1 x2 x3 x4) ph = never (ap is_linking ph) (ap is_linking x0)
-  at_link (Way.back_after_on x0 x1 x2 x3 x4) ph = never (ap is_linking ph) (ap is_linking x0)
-  at_link (Way.back_change_above x0 x1 x2 x3 x4) ph = never (ap is_linking ph) (ap is_linking x0)
-  at_link (Way.back_change_seek x0 x1 x2 x3 x4) ph = never (ap is_linking ph) (ap is_linking x0)
-  at_link (Way.on_look_next x0 x1 x2 x3 x4) ph = never (ap is_linking ph) (ap is_linking x0)
-  at_link (Way.on_look_marked x0 x1 x2 x3 x4 x5) ph = never (ap is_linking ph) (ap is_linking x0)
-  at_link (Way.on_look_yes x0 x1 x2 x3 x4 x5) ph = never (ap is_linking ph) (ap is_linking x0)
-  at_link (Way.on_look_no x0 x1 x2 x3 x4) ph = never (ap is_linking ph) (ap is_linking x0)
-  at_link (Way.on_after_next x0 x1 x2 x3 x4) ph = never (ap is_linking ph) (ap is_linking x0)
-  at_link (Way.on_after_missing x0 x1 x2 x3 x4) ph = never (ap is_linking ph) (ap is_linking x0)
-  at_link (Way.on_after_marked x0 x1 x2 x3 x4 x5) ph = never (ap is_linking ph) (ap is_linking x0)
-  at_link (Way.on_after_found x0 x1 x2 x3 x4 x5 x6 x7) ph = never (ap is_linking ph) (ap is_linking x0)
-  at_link (Way.seek_next x0 x1 x2 x3 x4) ph = never (ap is_linking ph) (ap is_linking x0)
-  at_link (Way.seek_lock x0 x1 x2 x3 x4) ph = never (ap is_linking ph) (ap is_linking x0)
-  at_link (Way.lock_waits x0 x1 x2 x3) ph = never (ap is_linking ph) (ap is_linking x0)
-  at_link (Way.lock_taken x0 x1 x2 x3 x4) ph = never (ap is_linking ph) (ap is_linking x0)
-  at_link (Way.valid_again x0 x1 x2 x3 x4) ph = never (ap is_linking ph) (ap is_linking x0)
-  at_link (Way.valid_put_no x0 x1 x2 x3 x4 x5) ph = never (ap is_linking ph) (ap is_linking x0)
-  at_link (Way.valid_take x0 x1 x2 x3 x4 x5) ph = never (ap is_linking ph) (ap is_linking x0)
-  at_link (Way.valid_strike_no x0 x1 x2 x3 x4 x5) ph = never (ap is_linking ph) (ap is_linking x0)
-  at_link (Way.valid_victim x0 x1 x2 x3 x4 x5) ph = never (ap is_linking ph) (ap is_linking x0)
-  at_link (Way.take_none x0 x1 x2 x3) ph = never (ap is_linking ph) (ap is_linking x0)
-  at_link (Way.take_some x0 x1 x2 x3 x4 x5 x6) ph = never (ap is_linking ph) (ap is_linking x0)
+  at_link (Way.strays x0 x1 x2) ph = true_and_false (ap is_linking ph) (stray_still x0)
+  at_link (Way.enters x0 x1 x2 x3 x4) ph = true_and_false (ap is_linking ph) (ap is_linking x0)
+  at_link (Way.down_here x0 x1 x2 x3) ph = true_and_false (ap is_linking ph) (ap is_linking x0)
+  at_link (Way.down_lost x0 x1 x2 x3) ph = true_and_false (ap is_linking ph) (ap is_linking x0)
+  at_link (Way.down_last x0 x1 x2 x3 x4 x5 x6) ph = true_and_false (ap is_linking ph) (ap is_linking x0)
+  at_link (Way.down_on x0 x1 x2 x3 x4 x5 x6) ph = true_and_false (ap is_linking ph) (ap is_linking x0)
+  at_link (Way.check_marked x0 x1 x2 x3) ph = true_and_false (ap is_linking ph) (ap is_linking x0)
+  at_link (Way.check_unmarked x0 x1 x2 x3) ph = true_and_false (ap is_linking ph) (ap is_linking x0)
+  at_link (Way.back_look_yes x0 x1 x2 x3 x4 x5) ph = true_and_false (ap is_linking ph) (ap is_linking x0)
+  at_link (Way.back_look_marked x0 x1 x2 x3 x4 x5) ph = true_and_false (ap is_linking ph) (ap is_linking x0)
+  at_link (Way.back_look_above x0 x1 x2 x3 x4) ph = true_and_false (ap is_linking ph) (ap is_linking x0)
+  at_link (Way.back_look_on x0 x1 x2 x3 x4) ph = true_and_false (ap is_linking ph) (ap is_linking x0)
+  at_link (Way.back_after_above x0 x1 x2 x3 x4) ph = true_and_false (ap is_linking ph) (ap is_linking x0)
+  at_link (Way.back_after_on x0 x1 x2 x3 x4) ph = true_and_false (ap is_linking ph) (ap is_linking x0)
+  at_link (Way.back_change_above x0 x1 x2 x3 x4) ph = true_and_false (ap is_linking ph) (ap is_linking x0)
+  at_link (Way.back_change_seek x0 x1 x2 x3 x4) ph = true_and_false (ap is_linking ph) (ap is_linking x0)
+  at_link (Way.on_look_next x0 x1 x2 x3 x4) ph = true_and_false (ap is_linking ph) (ap is_linking x0)
+  at_link (Way.on_look_marked x0 x1 x2 x3 x4 x5) ph = true_and_false (ap is_linking ph) (ap is_linking x0)
+  at_link (Way.on_look_yes x0 x1 x2 x3 x4 x5) ph = true_and_false (ap is_linking ph) (ap is_linking x0)
+  at_link (Way.on_look_no x0 x1 x2 x3 x4) ph = true_and_false (ap is_linking ph) (ap is_linking x0)
+  at_link (Way.on_after_next x0 x1 x2 x3 x4) ph = true_and_false (ap is_linking ph) (ap is_linking x0)
+  at_link (Way.on_after_missing x0 x1 x2 x3 x4) ph = true_and_false (ap is_linking ph) (ap is_linking x0)
+  at_link (Way.on_after_marked x0 x1 x2 x3 x4 x5) ph = true_and_false (ap is_linking ph) (ap is_linking x0)
+  at_link (Way.on_after_found x0 x1 x2 x3 x4 x5 x6 x7) ph = true_and_false (ap is_linking ph) (ap is_linking x0)
+  at_link (Way.seek_next x0 x1 x2 x3 x4) ph = true_and_false (ap is_linking ph) (ap is_linking x0)
+  at_link (Way.seek_lock x0 x1 x2 x3 x4) ph = true_and_false (ap is_linking ph) (ap is_linking x0)
+  at_link (Way.lock_waits x0 x1 x2 x3) ph = true_and_false (ap is_linking ph) (ap is_linking x0)
+  at_link (Way.lock_taken x0 x1 x2 x3 x4) ph = true_and_false (ap is_linking ph) (ap is_linking x0)
+  at_link (Way.valid_again x0 x1 x2 x3 x4) ph = true_and_false (ap is_linking ph) (ap is_linking x0)
+  at_link (Way.valid_put_no x0 x1 x2 x3 x4 x5) ph = true_and_false (ap is_linking ph) (ap is_linking x0)
+  at_link (Way.valid_take x0 x1 x2 x3 x4 x5) ph = true_and_false (ap is_linking ph) (ap is_linking x0)
+  at_link (Way.valid_strike_no x0 x1 x2 x3 x4 x5) ph = true_and_false (ap is_linking ph) (ap is_linking x0)
+  at_link (Way.valid_victim x0 x1 x2 x3 x4 x5) ph = true_and_false (ap is_linking ph) (ap is_linking x0)
+  at_link (Way.take_none x0 x1 x2 x3) ph = true_and_false (ap is_linking ph) (ap is_linking x0)
+  at_link (Way.take_some x0 x1 x2 x3 x4 x5 x6) ph = true_and_false (ap is_linking ph) (ap is_linking x0)
   at_link (Way.links x0 x1 x2) ph = (x1, x2)
-  at_link (Way.links_back x0 x1 x2 x3) ph = never (ap is_linking ph) (ap is_linking x0)
-  at_link (Way.attaches x0 x1 x2 x3 x4 x5) ph = never (ap is_linking ph) (ap is_linking x0)
-  at_link (Way.releases_new x0 x1 x2) ph = never (ap is_linking ph) (ap is_linking x0)
-  at_link (Way.put_ends x0 x1 x2) ph = never (ap is_linking ph) (ap is_linking x0)
-  at_link (Way.victim_waits x0 x1 x2 x3) ph = never (ap is_linking ph) (ap is_linking x0)
-  at_link (Way.victim_taken x0 x1 x2 x3 x4) ph = never (ap is_linking ph) (ap is_linking x0)
+  at_link (Way.links_back x0 x1 x2 x3) ph = true_and_false (ap is_linking ph) (ap is_linking x0)
+  at_link (Way.attaches x0 x1 x2 x3 x4 x5) ph = true_and_false (ap is_linking ph) (ap is_linking x0)
+  at_link (Way.releases_new x0 x1 x2) ph = true_and_false (ap is_linking ph) (ap is_linking x0)
+  at_link (Way.put_ends x0 x1 x2) ph = true_and_false (ap is_linking ph) (ap is_linking x0)
+  at_link (Way.victim_waits x0 x1 x2 x3) ph = true_and_false (ap is_linking ph) (ap is_linking x0)
+  at_link (Way.victim_taken x0 x1 x2 x3 x4) ph = true_and_false (ap is_linking ph) (ap is_linking x0)
   at_link (Way.marks x0 x1 x2) ph = link_not_mark ph x0
-  at_link (Way.unlinks_back x0 x1 x2 x3) ph = never (ap is_linking ph) (ap is_linking x0)
-  at_link (Way.unlinks x0 x1 x2) ph = never (ap is_linking ph) (ap is_linking x0)
-  at_link (Way.detaches x0 x1 x2 x3 x4) ph = never (ap is_linking ph) (ap is_linking x0)
-  at_link (Way.releases_victim x0 x1 x2) ph = never (ap is_linking ph) (ap is_linking x0)
-  at_link (Way.strike_ends x0 x1 x2 x3) ph = never (ap is_linking ph) (ap is_linking x0)
-  at_link (Way.first_missing x0 x1 x2 x3) ph = never (ap is_linking ph) (ap is_linking x0)
-  at_link (Way.first_on_next x0 x1 x2 x3) ph = never (ap is_linking ph) (ap is_linking x0)
-  at_link (Way.first_marked x0 x1 x2 x3) ph = never (ap is_linking ph) (ap is_linking x0)
-  at_link (Way.first_found x0 x1 x2 x3 x4 x5) ph = never (ap is_linking ph) (ap is_linking x0)
+  at_link (Way.unlinks_back x0 x1 x2 x3) ph = true_and_false (ap is_linking ph) (ap is_linking x0)
+  at_link (Way.unlinks x0 x1 x2) ph = true_and_false (ap is_linking ph) (ap is_linking x0)
+  at_link (Way.detaches x0 x1 x2 x3 x4) ph = true_and_false (ap is_linking ph) (ap is_linking x0)
+  at_link (Way.releases_victim x0 x1 x2) ph = true_and_false (ap is_linking ph) (ap is_linking x0)
+  at_link (Way.strike_ends x0 x1 x2 x3) ph = true_and_false (ap is_linking ph) (ap is_linking x0)
+  at_link (Way.first_missing x0 x1 x2 x3) ph = true_and_false (ap is_linking ph) (ap is_linking x0)
+  at_link (Way.first_on_next x0 x1 x2 x3) ph = true_and_false (ap is_linking ph) (ap is_linking x0)
+  at_link (Way.first_marked x0 x1 x2 x3) ph = true_and_false (ap is_linking ph) (ap is_linking x0)
+  at_link (Way.first_found x0 x1 x2 x3 x4 x5) ph = true_and_false (ap is_linking ph) (ap is_linking x0)
 
   pub at_mark : Way rank s me t o s' → t.phase ≡ Mark → (o ≡ Goes (into UnlinkBack t)) × (s' ≡ mark_put t.other s)
-  at_mark (Way.strays x0 x1 x2) ph = never (ap is_linking ph) (stray_still x0)
-  at_mark (Way.enters x0 x1 x2 x3 x4) ph = never (ap is_linking ph) (ap is_linking x0)
-  at_mark (Way.down_here x0 x1 x2 x3) ph = never (ap is_linking ph) (ap is_linking x0)
-  at_mark (Way.down_lost x0 x1 x2 x3) ph = never (ap is_linking ph) (ap is_linking x0)
-  at_mark (Way.down_last x0 x1 x2 x3 x4 x5 x6) ph = never (ap is_linking ph) (ap is_linking x0)
-  at_mark (Way.down_on x0 x1 x2 x3 x4 x5 x6) ph = never (ap is_linking ph) (ap is_linking x0)
-  at_mark (Way.check_marked x0 x1 x2 x3) ph = never (ap is_linking ph) (ap is_linking x0)
-  at_mark (Way.check_unmarked x0 x1 x2 x3) ph = never (ap is_linking ph) (ap is_linking x0)
-  at_mark (Way.back_look_yes x0 x1 x2 x3 x4 x5) ph = never (ap is_linking ph) (ap is_linking x0)
-  at_mark (Way.back_look_marked x0 x1 x2 x3 x4 x5) ph = never (ap is_linking ph) (ap is_linking x0)
-  at_mark (Way.back_look_above x0 x1 x2 x3 x4) ph = never (ap is_linking ph) (ap is_linking x0)
-  at_mark (Way.back_look_on x0 x1 x2 x3 x4) ph = never (ap is_linking ph) (ap is_linking x0)
-  at_mark (Way.back_after_above x0 x1 x2 x3 x4) ph = never (ap is_linking ph) (ap is_linking x0)
-  at_mark (Way.back_after_on x0 x1 x2 x3 x4) ph = never (ap is_linking ph) (ap is_linking x0)
-  at_mark (Way.back_change_above x0 x1 x2 x3 x4) ph = never (ap is_linking ph) (ap is_linking x0)
-  at_mark (Way.back_change_seek x0 x1 x2 x3 x4) ph = never (ap is_linking ph) (ap is_linking x0)
-  at_mark (Way.on_look_next x0 x1 x2 x3 x4) ph = never (ap is_linking ph) (ap is_linking x0)
-  at_mark (Way.on_look_marked x0 x1 x2 x3 x4 x5) ph = never (ap is_linking ph) (ap is_linking x0)
-  at_mark (Way.on_look_yes x0 x1 x2 x3 x4 x5) ph = never (ap is_linking ph) (ap is_linking x0)
-  at_mark (Way.on_look_no x0 x1 x2 x3 x4) ph = never (ap is_linking ph) (ap is_linking x0)
-  at_mark (Way.on_after_next x0 x1 x2 x3 x4) ph = never (ap is_linking ph) (ap is_linking x0)
-  at_mark (Way.on_after_missing x0 x1 x2 x3 x4) ph = never (ap is_linking ph) (ap is_linking x0)
-  at_mark (Way.on_after_marked x0 x1 x2 x3 x4 x5) ph = never (ap is_linking ph) (ap is_linking x0)
-  at_mark (Way.on_after_found x0 x1 x2 x3 x4 x5 x6 x7) ph = never (ap is_linking ph) (ap is_linking x0)
-  at_mark (Way.seek_next x0 x1 x2 x3 x4) ph = never (ap is_linking ph) (ap is_linking x0)
-  at_mark (Way.seek_lock x0 x1 x2 x3 x4) ph = never (ap is_linking ph) (ap is_linking x0)
-  at_mark (Way.lock_waits x0 x1 x2 x3) ph = never (ap is_linking ph) (ap is_linking x0)
-  at_mark (Way.lock_taken x0 x1 x2 x3 x4) ph = never (ap is_linking ph) (ap is_linking x0)
-  at_mark (Way.valid_again x0 x1 x2 x3 x4) ph = never (ap is_linking ph) (ap is_linking x0)
-  at_mark (Way.valid_put_no x0 x1 x2 x3 x4 x5) ph = never (ap is_linking ph) (ap is_linking x0)
-  at_mark (Way.valid_take x0 x1 x2 x3 x4 x5) ph = never (ap is_linking ph) (ap is_linking x0)
-  at_mark (Way.valid_strike_no x0 x1 x2 x3 x4 x5) ph = never (ap is_linking ph) (ap is_linking x0)
-  at_mark (Way.valid_victim x0 x1 x2 x3 x4 x5) ph = never (ap is_linking ph) (ap is_linking x0)
-  at_mark (Way.take_none x0 x1 x2 x3) ph = never (ap is_linking ph) (ap is_linking x0)
-  at_mark (Way.take_some x0 x1 x2 x3 x4 x5 x6) ph = never (ap is_linking ph) (ap is_linking x0)
+  at_mark (Way.strays x0 x1 x2) ph = true_and_false (ap is_linking ph) (stray_still x0)
+  at_mark (Way.enters x0 x1 x2 x3 x4) ph = true_and_false (ap is_linking ph) (ap is_linking x0)
+  at_mark (Way.down_here x0 x1 x2 x3) ph = true_and_false (ap is_linking ph) (ap is_linking x0)
+  at_mark (Way.down_lost x0 x1 x2 x3) ph = true_and_false (ap is_linking ph) (ap is_linking x0)
+  at_mark (Way.down_last x0 x1 x2 x3 x4 x5 x6) ph = true_and_false (ap is_linking ph) (ap is_linking x0)
+  at_mark (Way.down_on x0 x1 x2 x3 x4 x5 x6) ph = true_and_false (ap is_linking ph) (ap is_linking x0)
+  at_mark (Way.check_marked x0 x1 x2 x3) ph = true_and_false (ap is_linking ph) (ap is_linking x0)
+  at_mark (Way.check_unmarked x0 x1 x2 x3) ph = true_and_false (ap is_linking ph) (ap is_linking x0)
+  at_mark (Way.back_look_yes x0 x1 x2 x3 x4 x5) ph = true_and_false (ap is_linking ph) (ap is_linking x0)
+  at_mark (Way.back_look_marked x0 x1 x2 x3 x4 x5) ph = true_and_false (ap is_linking ph) (ap is_linking x0)
+  at_mark (Way.back_look_above x0 x1 x2 x3 x4) ph = true_and_false (ap is_linking ph) (ap is_linking x0)
+  at_mark (Way.back_look_on x0 x1 x2 x3 x4) ph = true_and_false (ap is_linking ph) (ap is_linking x0)
+  at_mark (Way.back_after_above x0 x1 x2 x3 x4) ph = true_and_false (ap is_linking ph) (ap is_linking x0)
+  at_mark (Way.back_after_on x0 x1 x2 x3 x4) ph = true_and_false (ap is_linking ph) (ap is_linking x0)
+  at_mark (Way.back_change_above x0 x1 x2 x3 x4) ph = true_and_false (ap is_linking ph) (ap is_linking x0)
+  at_mark (Way.back_change_seek x0 x1 x2 x3 x4) ph = true_and_false (ap is_linking ph) (ap is_linking x0)
+  at_mark (Way.on_look_next x0 x1 x2 x3 x4) ph = true_and_false (ap is_linking ph) (ap is_linking x0)
+  at_mark (Way.on_look_marked x0 x1 x2 x3 x4 x5) ph = true_and_false (ap is_linking ph) (ap is_linking x0)
+  at_mark (Way.on_look_yes x0 x1 x2 x3 x4 x5) ph = true_and_false (ap is_linking ph) (ap is_linking x0)
+  at_mark (Way.on_look_no x0 x1 x2 x3 x4) ph = true_and_false (ap is_linking ph) (ap is_linking x0)
+  at_mark (Way.on_after_next x0 x1 x2 x3 x4) ph = true_and_false (ap is_linking ph) (ap is_linking x0)
+  at_mark (Way.on_after_missing x0 x1 x2 x3 x4) ph = true_and_false (ap is_linking ph) (ap is_linking x0)
+  at_mark (Way.on_after_marked x0 x1 x2 x3 x4 x5) ph = true_and_false (ap is_linking ph) (ap is_linking x0)
+  at_mark (Way.on_after_found x0 x1 x2 x3 x4 x5 x6 x7) ph = true_and_false (ap is_linking ph) (ap is_linking x0)
+  at_mark (Way.seek_next x0 x1 x2 x3 x4) ph = true_and_false (ap is_linking ph) (ap is_linking x0)
+  at_mark (Way.seek_lock x0 x1 x2 x3 x4) ph = true_and_false (ap is_linking ph) (ap is_linking x0)
+  at_mark (Way.lock_waits x0 x1 x2 x3) ph = true_and_false (ap is_linking ph) (ap is_linking x0)
+  at_mark (Way.lock_taken x0 x1 x2 x3 x4) ph = true_and_false (ap is_linking ph) (ap is_linking x0)
+  at_mark (Way.valid_again x0 x1 x2 x3 x4) ph = true_and_false (ap is_linking ph) (ap is_linking x0)
+  at_mark (Way.valid_put_no x0 x1 x2 x3 x4 x5) ph = true_and_false (ap is_linking ph) (ap is_linking x0)
+  at_mark (Way.valid_take x0 x1 x2 x3 x4 x5) ph = true_and_false (ap is_linking ph) (ap is_linking x0)
+  at_mark (Way.valid_strike_no x0 x1 x2 x3 x4 x5) ph = true_and_false (ap is_linking ph) (ap is_linking x0)
+  at_mark (Way.valid_victim x0 x1 x2 x3 x4 x5) ph = true_and_false (ap is_linking ph) (ap is_linking x0)
+  at_mark (Way.take_none x0 x1 x2 x3) ph = true_and_false (ap is_linking ph) (ap is_linking x0)
+  at_mark (Way.take_some x0 x1 x2 x3 x4 x5 x6) ph = true_and_false (ap is_linking ph) (ap is_linking x0)
   at_mark (Way.links x0 x1 x2) ph = link_not_mark x0 ph
-  at_mark (Way.links_back x0 x1 x2 x3) ph = never (ap is_linking ph) (ap is_linking x0)
-  at_mark (Way.attaches x0 x1 x2 x3 x4 x5) ph = never (ap is_linking ph) (ap is_linking x0)
-  at_mark (Way.releases_new x0 x1 x2) ph = never (ap is_linking ph) (ap is_linking x0)
-  at_mark (Way.put_ends x0 x1 x2) ph = never (ap is_linking ph) (ap is_linking x0)
-  at_mark (Way.victim_waits x0 x1 x2 x3) ph = never (ap is_linking ph) (ap is_linking x0)
-  at_mark (Way.victim_taken x0 x1 x2 x3 x4) ph = never (ap is_linking ph) (ap is_linking x0)
+  at_mark (Way.links_back x0 x1 x2 x3) ph = true_and_false (ap is_linking ph) (ap is_linking x0)
+  at_mark (Way.attaches x0 x1 x2 x3 x4 x5) ph = true_and_false (ap is_linking ph) (ap is_linking x0)
+  at_mark (Way.releases_new x0 x1 x2) ph = true_and_false (ap is_linking ph) (ap is_linking x0)
+  at_mark (Way.put_ends x0 x1 x2) ph = true_and_false (ap is_linking ph) (ap is_linking x0)
+  at_mark (Way.victim_waits x0 x1 x2 x3) ph = true_and_false (ap is_linking ph) (ap is_linking x0)
+  at_mark (Way.victim_taken x0 x1 x2 x3 x4) ph = true_and_false (ap is_linking ph) (ap is_linking x0)
   at_mark (Way.marks x0 x1 x2) ph = (x1, x2)
-  at_mark (Way.unlinks_back x0 x1 x2 x3) ph = never (ap is_linking ph) (ap is_linking x0)
-  at_mark (Way.unlinks x0 x1 x2) ph = never (ap is_linking ph) (ap is_linking x0)
-  at_mark (Way.detaches x0 x1 x2 x3 x4) ph = never (ap is_linking ph) (ap is_linking x0)
-  at_mark (Way.releases_victim x0 x1 x2) ph = never (ap is_linking ph) (ap is_linking x0)
-  at_mark (Way.strike_ends x0 x1 x2 x3) ph = never (ap is_linking ph) (ap is_linking x0)
-  at_mark (Way.first_missing x0 x1 x2 x3) ph = never (ap is_linking ph) (ap is_linking x0)
-  at_mark (Way.first_on_next x0 x1 x2 x3) ph = never (ap is_linking ph) (ap is_linking x0)
-  at_mark (Way.first_marked x0 x1 x2 x3) ph = never (ap is_linking ph) (ap is_linking x0)
-  at_mark (Way.first_found x0 x1 x2 x3 x4 x5) ph = never (ap is_linking ph) (ap is_linking x0)
+  at_mark (Way.unlinks_back x0 x1 x2 x3) ph = true_and_false (ap is_linking ph) (ap is_linking x0)
+  at_mark (Way.unlinks x0 x1 x2) ph = true_and_false (ap is_linking ph) (ap is_linking x0)
+  at_mark (Way.detaches x0 x1 x2 x3 x4) ph = true_and_false (ap is_linking ph) (ap is_linking x0)
+  at_mark (Way.releases_victim x0 x1 x2) ph = true_and_false (ap is_linking ph) (ap is_linking x0)
+  at_mark (Way.strike_ends x0 x1 x2 x3) ph = true_and_false (ap is_linking ph) (ap is_linking x0)
+  at_mark (Way.first_missing x0 x1 x2 x3) ph = true_and_false (ap is_linking ph) (ap is_linking x0)
+  at_mark (Way.first_on_next x0 x1 x2 x3) ph = true_and_false (ap is_linking ph) (ap is_linking x0)
+  at_mark (Way.first_marked x0 x1 x2 x3) ph = true_and_false (ap is_linking ph) (ap is_linking x0)
+  at_mark (Way.first_found x0 x1 x2 x3 x4 x5) ph = true_and_false (ap is_linking ph) (ap is_linking x0)
 
   pub ends_so : Way rank s me t o s' → (a : Answer K) → o ≡ Ends a → (is_linking t.phase ≡ false) × Ending t a
   ends_so (Way.strays x0 x1 x2) a e = goes_not_ends a x1 e

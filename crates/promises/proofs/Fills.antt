@@ -2,6 +2,7 @@
 use Rattle.std.proofs.Common.{◌≡◌, ℕ, ◌<◌, ◌≤◌, Bool, true, false, cond, not, ◌&&◌, ◌||◌, eqb, leb, ◌⊎◌, List, [], ◌∷◌, Some, None, Option, Ordering, sym, refl, ap, ◌∙◌, subst, inl, inr, arith}
 use Rattle.std.proofs.lemmas.Bool.{eqb-true, eq-eqb, ne_eqb, or_left, or_right, or_cases, and_parts, cases_eq}
 use Rattle.std.proofs.lemmas.Bool.Decides.{nat_tests}
+use Rattle.std.proofs.Math.Bool.{and-false}
 use Rattle.guides.specs.Meaning.{low, high, has}
 use Rattle.records.specs.declared.record.Phase.TheVariants.{Take, Link}
 use Rattle.records.specs.declared.record.Status.{Status}
@@ -9,6 +10,7 @@ use Rattle.records.specs.declared.record.Status.TheVariants.{Free, InHand, Retir
 use Rattle.records.specs.declared.record.Task.{Task}
 use Rattle.engine.specs.Calling.{locked_by}
 use Rattle.promises.specs.Promised.{is_chained}
+use Rattle.promises.proofs.Rungs.{three_placed}
 use Rattle.promises.proofs.Laws.{Laws, Bound, exact, before}
 use Rattle.records.specs.Records.{into, with_other}
 use Rattle.engine.specs.Settling.{with_steps}
@@ -57,11 +59,7 @@ module _ {K : Type 0} (rank : K → K → Ordering) (laws : Laws rank) (s : Sigh
   hand_other q h same = let z : ◌≡◌ {A = Status} Free InHand = sym free ∙ ap s.status same ∙ h in let k : ◌≡◌ {A = ℕ} 0 1 = cc in omega arith
 
   seen_other : (i q : ℕ) → seen_by s i q ≡ true → p ≡ q → ⊥
-  seen_other i q h same = never (sym h ∙ ap (seen_by s i) (sym same) ∙ ap (λ y. is_chained y || (s.marked p && waits_for i y)) free ∙ nothing (s.marked p))
-    where
-      nothing : (c : Bool) → (false || (c && false)) ≡ false
-      nothing true = refl
-      nothing false = refl
+  seen_other i q h same = never (sym h ∙ ap (seen_by s i) (sym same) ∙ ap (λ y. is_chained y || (s.marked p && waits_for i y)) free ∙ and-false (s.marked p))
 
   -- The other place of a work that has one.
   other_other : (i : ℕ) (v : Task K) → s.task i ≡ Some v → is_keyed (rung v.phase) ≡ true → p ≡ v.other → ⊥
@@ -167,9 +165,6 @@ module _ {K : Type 0} (rank : K → K → Ordering) (laws : Laws rank) (s : Sigh
 
       between_placed : (r : ℕ) → is_between r ≡ true → is_placed r ≡ true
       between_placed r h = grind (arith, nat_tests)
-
-      three_placed : (r : ℕ) → eqb r 3 ≡ true → is_placed r ≡ true
-      three_placed r h = grind (arith, nat_tests)
 
       marked_keyed : (r : ℕ) → is_marked r ≡ true → is_keyed r ≡ true
       marked_keyed r h = grind (arith, nat_tests)

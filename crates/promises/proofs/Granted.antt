@@ -2,17 +2,19 @@
 use Rattle.std.proofs.Common.{◌≡◌, ℕ, ◌<◌, Bool, true, false, not, ◌&&◌, ◌||◌, eqb, leb, ◌⊎◌, List, [], ◌∷◌, Some, None, Ok, Err, Option, Ordering, sym, refl, ap, ◌∙◌, subst, inl, inr, ⊎_elim, arith}
 use Rattle.std.proofs.lemmas.Bool.{cases_Bool, true≢false, false≢true, eqb-true, eq-eqb, ne_eqb, lt-leb, and_parts, and_from, or_cases, or_left, or_right, or_from, not_from_true, not_from_false, cond-false}
 use Rattle.std.proofs.lemmas.Bool.Decides.{nat_tests}
+use Rattle.std.proofs.Math.Bool.{and-false}
 use Rattle.guides.specs.declared.answer.GuideRefusal.TheVariants.{BadSpot, NotThere}
 use Rattle.guides.specs.Meaning.{low, high, has, begins_with, neighbours}
 use Rattle.guides.specs.Rules.{attaching, detaching}
 use Rattle.guides.proofs.Sequences.{attached, detached}
 use Rattle.records.specs.declared.record.Status.TheVariants.{InHand, Chained}
 use Rattle.records.specs.declared.record.Task.{Task}
+use Rattle.promises.proofs.Rungs.{joined_placed, placed_holds}
 use Rattle.promises.proofs.Laws.{Laws, Bound, exact, before, before_chains, before_once}
 use Rattle.promises.proofs.Sights.{Sight}
 use Rattle.promises.proofs.Invariant.{Inv, Rising, rung, holds_at, holds_other, is_between, is_placed, is_joined, is_keyed, is_handing, is_hiding, is_detaching, holds, other_in, holder_in, chained}
 use Rattle.promises.proofs.Tidy.{other_found}
-use Rattle.promises.proofs.Seats.{joined_placed, placed_holds, holder_locks, one_holder, not_both, not_itself, next_apart, holds_its_at, holds_its_other, at_not_high, placed_is_late, other_not_high, joined_chained, joined_within, joined_leads, at_under_other}
+use Rattle.promises.proofs.Seats.{holder_locks, one_holder, not_both, not_itself, next_apart, holds_its_at, holds_its_other, at_not_high, placed_is_late, other_not_high, joined_chained, joined_within, joined_leads, at_under_other}
 
 -- ---- neighbours in a rising sequence
 
@@ -155,11 +157,7 @@ module _ {K : Type 0} (rank : K → K → Ordering) (laws : Laws rank) (s : Sigh
       at_shown =
           chained_shown t.at at_ch
           (ap (λ o. holder_in is_hiding s.task o t.at) (holder_locks rank laws s inv i t.at has_at) ∙ ap (λ o. other_in is_hiding o t.at) is
-          ∙ ap (λ b. is_hiding (rung t.phase) && b) (ne_eqb t.other t.at at_not_other) ∙ none (is_hiding (rung t.phase)))
-        where
-          none : (b : Bool) → (b && false) ≡ false
-          none true = refl
-          none false = refl
+          ∙ ap (λ b. is_hiding (rung t.phase) && b) (ne_eqb t.other t.at at_not_other) ∙ and-false (is_hiding (rung t.phase)))
 
       -- The work of another station, or of this one: then it is the same work.
       same_work : (j : ℕ) (u : Task K) → s.task j ≡ Some u → i ≡ j → t ≡ u

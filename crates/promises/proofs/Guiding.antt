@@ -7,6 +7,7 @@ use Rattle.records.specs.declared.record.Phase.{Phase}
 use Rattle.records.specs.declared.record.Phase.TheVariants.{Enter, Down, Check, Back, On, Seek, Lock, Valid, Take, Link, LinkBack, Attach, ReleaseNew, PutEnd, TakeVictim, Mark, UnlinkBack, Unlink, Detach, ReleaseVictim, StrikeEnd, First, FirstNext}
 use Rattle.records.specs.declared.record.Task.{Task}
 use Rattle.promises.specs.Promised.{is_chained}
+use Rattle.promises.proofs.Small.{one_holder}
 use Rattle.promises.proofs.Laws.{Laws, Bound, exact, before}
 use Rattle.records.specs.declared.outcome.Outcome.{Outcome}
 use Rattle.records.specs.declared.outcome.Outcome.TheVariants.{Goes}
@@ -23,7 +24,7 @@ use Rattle.promises.proofs.Invariant.{is_spared}
 use Rattle.promises.proofs.Retasks.{holder_same}
 use Rattle.promises.proofs.Sees.{has_holder, joined_chained}
 use Rattle.promises.proofs.Relocks.{other_alike, awaited_with}
-use Rattle.promises.proofs.Preds.{one_holder, at_with_same, lag_elsewhere}
+use Rattle.promises.proofs.Preds.{at_with_same, lag_elsewhere}
 use Rattle.promises.proofs.Sees.{at_not_other, HasHolder}
 use Rattle.promises.proofs.Marking.{other_by, holds_by}
 use Rattle.guides.specs.Meaning.{Meaning, with_after, without}

@@ -1,7 +1,7 @@
 -- What a work under way may say of the past: a place that was on the chain since the work began has its key still, and is
 -- on the chain now, or was struck since, and its links are those of its last moment on the chain. Assumes the invariant of
 -- every book of a run.
-use Rattle.std.proofs.Common.{◌≡◌, ℕ, zero, suc, Bool, true, false, cond, ◌⊎◌, List, [], ◌∷◌, length, get_or, is_some, None, Ok, Err, Result, Ordering, sym, refl, ap, ◌∙◌, subst, inl, inr}
+use Rattle.std.proofs.Common.{◌≡◌, ℕ, Bool, true, false, cond, ◌⊎◌, List, [], ◌∷◌, length, is_some, None, Ok, Err, Result, Ordering, sym, refl, ap, ◌∙◌, subst, inl, inr}
 use Rattle.std.proofs.lemmas.Bool.{true≢false}
 use Rattle.guides.specs.declared.answer.GuideRefusal.{GuideRefusal}
 use Rattle.guides.specs.Meaning.{Meaning}
@@ -9,10 +9,10 @@ use Rattle.guides.specs.Rules.{clearing}
 use Rattle.records.specs.declared.answer.Refusal.TheVariants.{BadCount, Guide}
 use Rattle.records.specs.declared.record.Place.{Place}
 use Rattle.records.specs.declared.record.Station.{Station}
-use Rattle.engine.specs.Calling.{Opened, opening, opening_by, opened_stations, bad_count, served, task_at}
-use Rattle.engine.specs.Settling.{idle}
+use Rattle.engine.specs.Calling.{Opened, opening, opening_by, opened_stations, bad_count, task_at}
 use Rattle.promises.specs.Books.{Book}
 use Rattle.promises.specs.Runs.{Call, Reply, Does, Run, opened, next, works_in, for_work, since}
+use Rattle.promises.proofs.Openings.{no_task}
 use Rattle.promises.proofs.Sights.{sight_of}
 use Rattle.promises.proofs.Finds.{never_ok, same_ok}
 use Rattle.promises.proofs.Invariant.{Inv, chained}
@@ -55,18 +55,6 @@ module _ {K : Type 0} where
 
   -- ---- no station works in a book that was just opened
 
-  idle_at : (ss : List (Station K)) (i : ℕ) → (get_or (opened_stations ss) i idle).task ≡ None
-  idle_at [] i = refl
-  idle_at (s ∷ ss) zero = refl
-  idle_at (s ∷ ss) (suc i) = idle_at ss i
-
-  opened_idle : (ss : List (Station K)) (i : ℕ) → task_at (opened_stations ss) i ≡ None
-  opened_idle ss i = go (served (opened_stations ss) i)
-    where
-      go : (x : Bool) → cond x (get_or (opened_stations ss) i idle).task None ≡ None
-      go true = idle_at ss i
-      go false = refl
-
   cleared_stations : (m : Result Meaning GuideRefusal) (ps : List (Place K)) (ss : List (Station K)) (o : Opened K) → opening_by m ps ss ≡ Ok o → o.stations ≡ opened_stations ss
   cleared_stations (Ok m) ps ss o e = sym (ap (λ x. x.stations) (same_ok _ _ e))
   cleared_stations (Err r) ps ss o e = never_ok (Guide r) o e
@@ -79,7 +67,7 @@ module _ {K : Type 0} where
       go false e = cleared_stations (clearing most (length ps)) ps ss o e
 
   pub none_works_opened : (most : ℕ) (ps : List (Place K)) (ss : List (Station K)) (o : Opened K) → opening most ps ss ≡ Ok o → (i : ℕ) → task_at o.stations i ≡ None
-  none_works_opened most ps ss o e i = ap (λ x. task_at x i) (opening_stations most ps ss o e) ∙ opened_idle ss i
+  none_works_opened most ps ss o e i = ap (λ x. task_at x i) (opening_stations most ps ss o e) ∙ no_task ss i
 
 module _ {K : Type 0} (rank : K → K → Ordering) where
   -- The book that stands now is one of those since a work began.

@@ -17,6 +17,7 @@ use Rattle.engine.specs.Settling.{with_await}
 use Rattle.promises.specs.Books.{Book, work_at}
 use Rattle.promises.specs.Promised.{is_chained}
 use Rattle.promises.specs.Runs.{Call, Reply, Run, opened, next, step, is_step_of}
+use Rattle.promises.proofs.Rungs.{placed_holds}
 use Rattle.promises.proofs.Laws.{Laws}
 use Rattle.promises.proofs.Sights.{Sight, sight_of}
 use Rattle.promises.proofs.Views.{Way, Strays}
@@ -25,7 +26,7 @@ use Rattle.promises.proofs.Accepted.{Made}
 use Rattle.promises.proofs.Invariant.{Inv, rung, holds_at, is_placed, is_joined, holds, chained}
 use Rattle.promises.proofs.Touches.{Touch, way_touches}
 use Rattle.promises.proofs.Keeps.{at_other}
-use Rattle.promises.proofs.Seats.{placed_holds, one_holder, holds_its_at}
+use Rattle.promises.proofs.Seats.{one_holder, holds_its_at}
 use Rattle.promises.proofs.Waiting.{IsHeldUp, way_waits}
 use Rattle.promises.proofs.Calls.{Did, call_did}
 use Rattle.promises.proofs.Doing.{goes_same, not_goes, waits_not_goes, retires_not_goes}

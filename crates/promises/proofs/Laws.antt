@@ -14,6 +14,11 @@ pub data Bound (K : Type 0) : Type 0 where
   exact : K → Bound K
   top : Bound K
 
+pub less_only : (o : Ordering) → is_lt o ≡ true → o ≡ Less
+less_only Less h = refl
+less_only Equal h = cc
+less_only Greater h = cc
+
 module _ {K : Type 0} (rank : K → K → Ordering) where
   -- The first is below the second.
   abbrev pub before : Bound K → Bound K → Bool
@@ -32,11 +37,6 @@ module _ {K : Type 0} (rank : K → K → Ordering) where
   compared bottom k = Less
   compared (exact a) k = rank a k
   compared top k = Greater
-
-  pub less_from_before : (o : Ordering) → is_lt o ≡ true → o ≡ Less
-  less_from_before Less h = refl
-  less_from_before Equal h = cc
-  less_from_before Greater h = cc
 
   module _ (laws : Laws rank) where
     rank_self : (o : Ordering) → o ≡ ordering_reverse o → is_lt o ≡ false
@@ -72,7 +72,7 @@ module _ {K : Type 0} (rank : K → K → Ordering) where
     before_chains (exact a) bottom top h k = refl
     before_chains (exact a) (exact b) bottom h k = k
     before_chains (exact a) (exact b) (exact c) h k =
-        ap is_lt (laws.chains a b c (less_from_before (rank a b) h) (less_from_before (rank b c) k))
+        ap is_lt (laws.chains a b c (less_only (rank a b) h) (less_only (rank b c) k))
     before_chains (exact a) (exact b) top h k = refl
     before_chains (exact a) top bottom h k = k
     before_chains (exact a) top (exact c) h k = cc

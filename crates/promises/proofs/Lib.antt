@@ -1,4 +1,6 @@
 mod Laws
+mod Small
+mod Rungs
 mod Sights
 mod Writes
 mod Views

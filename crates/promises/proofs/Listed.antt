@@ -1,10 +1,9 @@
 -- That the keys of a book rise and that list shows them, refused only where there are too few positions. Assumes the laws
 -- of the order and what holds between calls.
-use Rattle.std.proofs.Common.{◌≡◌, ℕ, ◌<◌, ◌≤◌, Bool, true, false, cond, eqb, ltb, List, [], ◌∷◌, ◌++◌, length, drop, Some, None, Ok, Err, Option, Result, Ordering, Less, Equal, Greater, sym, refl, ap, ◌∙◌, subst, inl, inr, arith}
+use Rattle.std.proofs.Common.{◌≡◌, ℕ, ◌<◌, ◌≤◌, Bool, true, false, cond, eqb, ltb, List, [], ◌∷◌, ◌++◌, length, drop, Some, None, Ok, Err, Option, Result, Ordering, Less, sym, refl, ap, ◌∙◌, subst, inl, inr, arith}
 use Rattle.std.proofs.lemmas.Bool.{lt-ltb, ltb-true, or_left, or_right, eq-eqb, cond-true}
 use Rattle.std.proofs.lemmas.Bool.Decides.{nat_tests}
 use Rattle.std.specs.List.{slice_get}
-use Rattle.std.specs.Ordering.{is_lt}
 use Rattle.guides.specs.Meaning.{Meaning, low, high, has}
 use Rattle.records.specs.declared.answer.Damage.TheVariants.{NoPlace}
 use Rattle.records.specs.declared.answer.Refusal.{Refusal}
@@ -13,7 +12,7 @@ use Rattle.records.specs.declared.record.Place.{Place}
 use Rattle.records.specs.declared.record.Station.{Station}
 use Rattle.engine.specs.Contents.{field_of, next_of, chain, with_key, keys_of, contents, reaches_high, listing_by, listing, Lists}
 use Rattle.promises.specs.Truths.{Holds, Rises}
-use Rattle.promises.proofs.Laws.{Laws, bottom, exact, top, before}
+use Rattle.promises.proofs.Laws.{Laws, bottom, exact, top, before, less_only}
 use Rattle.promises.proofs.Sights.{sight}
 use Rattle.promises.proofs.Finds.{never_ok, same_ok}
 use Rattle.promises.proofs.Invariant.{Inv, Rising}
@@ -55,11 +54,6 @@ module _ {K : Type 0} (ps : List (Place K)) (ss : List (Station K)) (m : Meaning
       by_place (Some x) is rest h = by_mark x is rest x.marked refl h
 
   module _ (rank : K → K → Ordering) where
-    less_from_before : (o : Ordering) → is_lt o ≡ true → o ≡ Less
-    less_from_before Less h = refl
-    less_from_before Equal h = cc
-    less_from_before Greater h = cc
-
     pub rising_keys : (xs : List ℕ) → ((p : ℕ) → has p xs ≡ true → 2 ≤ p) → Rising rank (sight ps ss m).spot xs → Rises rank (keys_of ps xs)
     rising_keys [] inner r = tt
     rising_keys (p ∷ xs) inner r =
@@ -79,7 +73,7 @@ module _ {K : Type 0} (ps : List (Place K)) (ss : List (Station K)) (m : Meaning
                 let own = spot_of_key ps ss m p x (inner p here) is in
                 let seen : before rank (exact x.key) (exact y) ≡ true =
                 sym (ap (λ b. before rank b (exact y)) own) ∙ sym (ap (before rank ((sight ps ss m).spot p)) found.2) ∙ up in
-                less_from_before (rank x.key y) seen
+                less_only (rank x.key y) seen
 
         by_place : (o : Option (Place K)) → slice_get ps p ≡ o → Rises rank (keys_of ps xs) → Rises rank (with_key o (keys_of ps xs))
         by_place None is rest = rest

@@ -13,6 +13,7 @@ use Rattle.engine.specs.Settling.{with_await}
 use Rattle.promises.specs.Books.{Book, work_at}
 use Rattle.promises.specs.Promised.{LooksEnd}
 use Rattle.promises.specs.Runs.{Call, Reply, Does, Run, opened, next, works_in, for_work, since, given_steps, is_step_of}
+use Rattle.promises.proofs.Small.{fits_first}
 use Rattle.promises.proofs.Laws.{Laws, before}
 use Rattle.promises.proofs.Sights.{Sight, sight_of}
 use Rattle.promises.proofs.Views.{Way}
@@ -21,7 +22,7 @@ use Rattle.promises.proofs.Invariant.{Inv, chained, fits, group}
 use Rattle.promises.proofs.Hindsight.{Among, Struck, Remembers, Passes, call_passes, now_among, hindsight, none_works_opened}
 use Rattle.promises.proofs.Works.{Comes, call_comes, none_not_some}
 use Rattle.promises.proofs.Walked.{Known, Walked, walks, either_known}
-use Rattle.promises.proofs.Spans.{since_more, since_runs, walked, fit_first}
+use Rattle.promises.proofs.Spans.{since_more, since_runs, walked}
 use Rattle.promises.proofs.Looking.{looks_never_wait, waits_at_a_lock, look_not_there}
 use Rattle.promises.proofs.Aims.{step_keeps_aim}
 use Rattle.promises.proofs.Paces.{Paced, paced_more, paced_few, paces, known_within}
@@ -93,7 +94,7 @@ module _ {K : Type 0} (rank : K → K → Ordering) where
           stepped_paces made same u (inl oc) =
               let way = subst (λ v. Way rank (sight_of b) i v made.outcome made.mid) same made.way in (
                 walks rank laws i b (since rank r i) (now_among rank r i works) (λ σ m. inv σ (since_runs rank r i σ m)) hind (λ σ m. prevs σ (since_runs rank r i σ m)) t ((inv b r).seen i t is) walked_here
-                    (λ f. fit_first t.work (ap (λ g. fits t.work (group g)) (sym f) ∙ fit)) way u oc,
+                    (λ f. fits_first t.work (ap (λ g. fits t.work (group g)) (sym f) ∙ fit)) way u oc,
                 paces rank laws i b (since rank r i) (now_among rank r i works) (λ σ m. inv σ (since_runs rank r i σ m)) hind (λ σ m. prevs σ (since_runs rank r i σ m)) (λ σ m. falls σ (since_runs rank r i σ m))
                     t looks fit (given_steps rank r i) (known_back t walked_here) (known_on t walked_here) p way u oc,
               )

@@ -7,6 +7,8 @@ use Rattle.records.specs.declared.record.Phase.{Phase}
 use Rattle.records.specs.declared.record.Phase.TheVariants.{LinkBack, Attach, Mark, UnlinkBack, Unlink}
 use Rattle.records.specs.declared.record.Task.{Task}
 use Rattle.promises.specs.Promised.{is_chained}
+use Rattle.promises.proofs.Small.{one_holder}
+use Rattle.promises.proofs.Rungs.{placed_holds}
 use Rattle.promises.proofs.Laws.{Laws}
 use Rattle.records.specs.declared.outcome.Outcome.{Outcome}
 use Rattle.records.specs.declared.outcome.Outcome.TheVariants.{Goes}
@@ -22,7 +24,7 @@ use Rattle.promises.proofs.Sights.{prev_put, mark_put}
 use Rattle.promises.proofs.Invariant.{is_spared, waits_for}
 use Rattle.promises.proofs.Retasks.{holder_same}
 use Rattle.promises.proofs.Relocks.{other_alike, awaited_with}
-use Rattle.promises.proofs.Preds.{one_holder, at_with_other, at_with_same, keyed_not_high, keyed_not_low, prev_write_keeps}
+use Rattle.promises.proofs.Preds.{at_with_other, at_with_same, keyed_not_high, keyed_not_low, prev_write_keeps}
 
 or_more : (a m m' w : Bool) → (m ≡ true → m' ≡ true) → (a || (m && w)) ≡ true → (a || (m' && w)) ≡ true
 or_more true m m' w up h = refl
@@ -130,9 +132,6 @@ module _ {K : Type 0} (rank : K → K → Ordering) (laws : Laws rank) (s : Sigh
 
         lock_x : s.lock t.other ≡ Some me
         lock_x = holds_own_other rank laws s inv me t is_task (by holds_other refl)
-
-        placed_holds : (r : ℕ) → is_placed r ≡ true → holds_at r ≡ true
-        placed_holds r h = grind (arith, nat_tests)
 
         spared_holds : (r : ℕ) → is_spared r ≡ true → holds_other r ≡ true
         spared_holds r h = grind (arith, nat_tests)

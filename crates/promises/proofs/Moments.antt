@@ -1,6 +1,6 @@
 -- Which keys a book holds, told from one link or one place of its chain, and that the successor of a place whose lock is
 -- held for VALID is not marked. Assumes the invariant, and that the keys are those of the unmarked places of the chain.
-use Rattle.std.proofs.Common.{◌≡◌, ℕ, Bool, true, false, ◌&&◌, eqb, leb, ◌⊎◌, Some, None, Option, Ordering, Less, Equal, Greater, sym, refl, ap, ◌∙◌, inl, inr, arith}
+use Rattle.std.proofs.Common.{◌≡◌, ℕ, Bool, true, false, ◌&&◌, eqb, leb, ◌⊎◌, Some, None, Option, Ordering, Less, sym, refl, ap, ◌∙◌, inl, inr, arith}
 use Rattle.std.proofs.lemmas.Bool.{true≢false, eqb-true, eq-eqb, and_parts, and_from, or_left}
 use Rattle.std.proofs.lemmas.Bool.Decides.{nat_tests}
 use Rattle.std.specs.Ordering.{is_lt}
@@ -12,9 +12,10 @@ use Rattle.engine.specs.Calling.{locked_by}
 use Rattle.promises.specs.Books.{Book, keys}
 use Rattle.promises.specs.Promised.{is_chained}
 use Rattle.promises.specs.Truths.{Holds, Smallest, SmallestAbove}
-use Rattle.promises.proofs.Laws.{Laws, Bound, bottom, exact, before, before_once, before_not_self, before_chains, before_neither}
+use Rattle.promises.proofs.Rungs.{placed_holds, striking_joined}
+use Rattle.promises.proofs.Laws.{Laws, Bound, bottom, exact, before, before_once, before_not_self, before_chains, before_neither, less_only}
 use Rattle.promises.proofs.Sights.{Sight, sight_of}
-use Rattle.promises.proofs.Invariant.{Inv, chained, rung, group, is_placed, is_joined, is_striking, holds_at, holds_other, holds, other_in}
+use Rattle.promises.proofs.Invariant.{Inv, chained, rung, group, is_placed, is_striking, holds_at, holds_other, holds, other_in}
 use Rattle.promises.proofs.Works.{some_injects}
 
 -- The keys of a book are those of the unmarked places of its chain.
@@ -47,23 +48,12 @@ striking_late StrikeEnd h = absurd (true≢false (sym h))
 striking_late First h = absurd (true≢false (sym h))
 striking_late FirstNext h = absurd (true≢false (sym h))
 
-striking_joined : (r : ℕ) → is_striking r ≡ true → is_joined r ≡ true
-striking_joined r h = grind (arith, nat_tests)
-
 striking_placed : (r : ℕ) → is_striking r ≡ true → is_placed r ≡ true
 striking_placed r h = grind (arith, nat_tests)
-
-placed_holds : (r : ℕ) → is_placed r ≡ true → holds_at r ≡ true
-placed_holds r h = grind (arith, nat_tests)
 
 same_holder : (i j : ℕ) (l : Option ℕ) → locked_by i l ≡ true → locked_by j l ≡ true → i ≡ j
 same_holder i j None h k = absurd (true≢false (sym h))
 same_holder i j (Some x) h k = sym (eqb-true x i h) ∙ eqb-true x j k
-
-less_of : (o : Ordering) → is_lt o ≡ true → o ≡ Less
-less_of Less h = refl
-less_of Equal h = absurd (true≢false (sym h))
-less_of Greater h = absurd (true≢false (sym h))
 
 module _ {K : Type 0} (rank : K → K → Ordering) (laws : Laws rank) where
   pub never_both : (x y : Bound K) → before rank x y ≡ true → before rank y x ≡ true → ⊥
@@ -113,7 +103,7 @@ module _ {K : Type 0} (rank : K → K → Ordering) (laws : Laws rank) where
         → chained (sight_of b) q ≡ true → (sight_of b).marked q ≡ false → (sight_of b).spot q ≡ exact a → before rank (exact k) ((sight_of b).spot q) ≡ true → SmallestAbove rank k a (keys b)
     smallest_above p q k a on low e on_q unmarked is above = record {
       among = shows.held q a on_q unmarked is;
-      above = less_of (rank k a) (ap (before rank (exact k)) (sym is) ∙ above);
+      above = less_only (rank k a) (ap (before rank (exact k)) (sym is) ∙ above);
       least = λ j h kj ja. absent_next p j on (low_under ((sight_of b).spot p) k j low (ap is_lt kj)) (ap (before rank (exact j)) (ap (sight_of b).spot e ∙ is) ∙ ap is_lt ja) h;
     }
 

@@ -1,8 +1,8 @@
 -- A put or a strike changes the keys at just one of its steps, and every other work at none. Assumes the laws of the order, and
 -- the invariant of every book of a run.
-use Rattle.std.proofs.Common.{◌≡◌, ℕ, ◌+◌, Bool, true, false, cond, not, ◌&&◌, ◌⊎◌, List, [], ◌∷◌, is_some, Some, Ordering, Less, Equal, Greater, sym, refl, ap, ◌∙◌, subst, inl, inr, true≢false, arith}
+use Rattle.std.proofs.Common.{◌≡◌, ℕ, ◌+◌, Bool, true, false, cond, not, ◌&&◌, ◌⊎◌, List, [], ◌∷◌, is_some, Some, Ordering, sym, refl, ap, ◌∙◌, subst, inl, inr, true≢false, arith}
 use Rattle.std.proofs.lemmas.Bool.{and_parts}
-use Rattle.std.specs.Ordering.{is_eq, ordering_reverse}
+use Rattle.std.specs.Ordering.{is_eq}
 use Rattle.records.specs.declared.answer.Stepped.{Stepped}
 use Rattle.records.specs.declared.outcome.Outcome.TheVariants.{Goes, Waits}
 use Rattle.records.specs.declared.record.Phase.{Phase}
@@ -11,6 +11,7 @@ use Rattle.records.specs.declared.record.Task.{Task}
 use Rattle.promises.specs.Books.{Book, keys, work_at}
 use Rattle.promises.specs.Truths.{Holds, Adds}
 use Rattle.promises.specs.Runs.{Call, Reply, Run, opened, next, same_keys, for_work, works_in, changes_now, changed_times}
+use Rattle.promises.proofs.Small.{equal_only, itself}
 use Rattle.promises.proofs.Laws.{Laws}
 use Rattle.promises.proofs.Sights.{sight_of}
 use Rattle.promises.proofs.Accepted.{Made}
@@ -51,16 +52,6 @@ which FirstNext h = absurd (true≢false (sym h))
 
 module _ {K : Type 0} (rank : K → K → Ordering) (laws : Laws rank) where
   -- ---- lists of the same keys
-
-  itself : (o : Ordering) → o ≡ ordering_reverse o → o ≡ Equal
-  itself Less h = cc
-  itself Equal h = refl
-  itself Greater h = cc
-
-  equal_only : (o : Ordering) → is_eq o ≡ true → o ≡ Equal
-  equal_only Less h = cc
-  equal_only Equal h = refl
-  equal_only Greater h = cc
 
   pub same_as_itself : (xs : List K) → same_keys rank xs xs ≡ true
   same_as_itself [] = refl

@@ -11,6 +11,7 @@ use Rattle.promises.specs.Promised.{is_chained}
 use Rattle.promises.proofs.Laws.{bottom, top, before}
 use Rattle.std.specs.List.{slice_get}
 use Rattle.std.proofs.lemmas.List.{length-map}
+use Rattle.std.proofs.Math.Bool.{or-false}
 use Rattle.guides.specs.declared.answer.GuideRefusal.TheVariants.{SmallGuide}
 use Rattle.guides.specs.Rules.{cleared, clearing}
 use Rattle.records.specs.declared.answer.Refusal.TheVariants.{BadCount, Guide}
@@ -40,7 +41,7 @@ module _ {K : Type 0} where
   idle_task (s ∷ ss) zero = refl
   idle_task (s ∷ ss) (suc i) = idle_task ss i
 
-  no_task : (ss : List (Station K)) (i : ℕ) → task_at (opened_stations ss) i ≡ None
+  pub no_task : (ss : List (Station K)) (i : ℕ) → task_at (opened_stations ss) i ≡ None
   no_task ss i = go (served (opened_stations ss) i)
     where
       go : (b : Bool) → cond b (get_or (opened_stations ss) i (idle {K = K})).task None ≡ None
@@ -139,13 +140,9 @@ module _ {K : Type 0} where
       awaits = λ p w r i g. not_retired p w r;
       next_seen = λ p w r i g. not_retired p w r;
       prev_seen = λ p w r i g. not_retired p w r;
-      guide_rises = ((λ y h. ap (λ q. before rank bottom (fresh.spot q)) (sym (eqb-true 1 y (only (eqb 1 y) h)))), ((λ y h. never (sym h)), tt));
+      guide_rises = ((λ y h. ap (λ q. before rank bottom (fresh.spot q)) (sym (eqb-true 1 y (sym (or-false (eqb 1 y)) ∙ h)))), ((λ y h. never (sym h)), tt));
       guide_shows = shows;
     }
-      where
-        only : (b : Bool) → (b || false) ≡ true → b ≡ true
-        only true h = refl
-        only false h = h
 
   -- Whatever an accepted open leaves.
   module _ (rank : K → K → Ordering) (most : ℕ) (ss : List (Station K)) (o : Opened K) where

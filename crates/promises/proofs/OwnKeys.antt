@@ -8,14 +8,13 @@ use Rattle.records.specs.declared.record.Place.{Place}
 use Rattle.records.specs.declared.record.Station.{Station}
 use Rattle.records.specs.declared.record.Status.TheVariants.{InHand}
 use Rattle.records.specs.declared.record.Task.{Task}
-use Rattle.records.specs.declared.record.Work.{Work}
-use Rattle.records.specs.declared.record.Work.TheVariants.{Put, Strike, Look, First, After}
 use Rattle.engine.specs.Contents.{contents}
 use Rattle.engine.specs.Settling.{retired_for as rests}
 use Rattle.promises.specs.Books.{Book, keys, work_at}
 use Rattle.promises.specs.Truths.{Adds}
 use Rattle.promises.specs.Promised.{is_chained, ChangesItsKey, OnlyOwnKeysChange}
 use Rattle.promises.specs.Runs.{Call, Reply, Run, step}
+use Rattle.promises.proofs.Small.{fits_put, fits_strike}
 use Rattle.promises.proofs.Laws.{Laws}
 use Rattle.promises.proofs.Sights.{Sight, sight, sight_of, task_put}
 use Rattle.promises.proofs.Settles.{Settling, work_over, retire_put}
@@ -62,19 +61,6 @@ module _ {K : Type 0} where
       subst (SameKept s) (sym e) (then_same (retires_same q w s (ap is_chained (hand q oc))) (over_same j t.awaited (retire_put q (rests w) s)))
 
 -- A put comes to LINK, a strike to MARK.
-pub link_puts : (w : Work) → fits w 4 ≡ true → w ≡ Put
-link_puts Put h = refl
-link_puts Strike h = cc
-link_puts Look h = cc
-link_puts First h = cc
-link_puts After h = cc
-
-pub mark_strikes : (w : Work) → fits w 5 ≡ true → w ≡ Strike
-mark_strikes Put h = cc
-mark_strikes Strike h = refl
-mark_strikes Look h = cc
-mark_strikes First h = cc
-mark_strikes After h = cc
 
 module _ {K : Type 0} (rank : K → K → Ordering) (laws : Laws rank) where
   -- What an accepted step makes of the kept keys.
@@ -106,9 +92,9 @@ module _ {K : Type 0} (rank : K → K → Ordering) (laws : Laws rank) where
         → (c : Call K) (a : Reply K) → c ≡ step j → Effect t (sight_of b) (sight_of b') → (keys b' ≡ keys b) ⊎ ((i : ℕ) × (u : Task K) × ChangesItsKey rank b c a b' i u)
     by_effect b i j x b' i' t is fit c a call (Effect.none same) = inl (same_contents b.places b.stations b.guide i b'.places b'.stations b'.guide i' same)
     by_effect b i j x b' i' t is fit c a call (Effect.adds ph more) =
-        inr (j, t, record { call = call; under_way = is; change = inl (link_puts t.work (sym (ap (λ p. fits t.work (group p)) ph) ∙ fit), more_contents b.places b.stations b.guide i b'.places b'.stations b'.guide i' t.key more) })
+        inr (j, t, record { call = call; under_way = is; change = inl (fits_put t.work (sym (ap (λ p. fits t.work (group p)) ph) ∙ fit), more_contents b.places b.stations b.guide i b'.places b'.stations b'.guide i' t.key more) })
     by_effect b i j x b' i' t is fit c a call (Effect.takes ph more) =
-        inr (j, t, record { call = call; under_way = is; change = inr (mark_strikes t.work (sym (ap (λ p. fits t.work (group p)) ph) ∙ fit), more_contents b'.places b'.stations b'.guide i' b.places b.stations b.guide i t.key more) })
+        inr (j, t, record { call = call; under_way = is; change = inr (fits_strike t.work (sym (ap (λ p. fits t.work (group p)) ph) ∙ fit), more_contents b'.places b'.stations b'.guide i' b.places b.stations b.guide i t.key more) })
 
     by_did : (b : Book K) → Inv rank (sight_of b) → (c : Call K) (a : Reply K) (b' : Book K) → Inv rank (sight_of b') → Did rank b c a b' → (keys b' ≡ keys b) ⊎ ((i : ℕ) × (t : Task K) × ChangesItsKey rank b c a b' i t)
     by_did b i c a b' i' (Did.nothing calm same) = inl (ap keys same)

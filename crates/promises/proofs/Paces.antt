@@ -1,6 +1,6 @@
 -- How far a look has come: the places at which it went back, and those at which it went on, are as many places. Assumes the
 -- invariant at the moments of the look, hindsight for it, and that the predecessor of a place of the chain lies below it.
-use Rattle.std.proofs.Common.{◌≡◌, ℕ, ◌+◌, ◌*◌, ◌<◌, ◌≤◌, Bool, true, false, not, eqb, ltb, ◌⊎◌, List, [], ◌∷◌, length, Ordering, Less, Equal, Greater, sym, refl, ap, ◌∙◌, subst, inl, inr, arith}
+use Rattle.std.proofs.Common.{◌≡◌, ℕ, ◌+◌, ◌*◌, ◌<◌, ◌≤◌, Bool, true, false, not, eqb, ltb, ◌⊎◌, List, [], ◌∷◌, length, Ordering, Less, Greater, sym, refl, ap, ◌∙◌, subst, inl, inr, arith}
 use Rattle.std.proofs.lemmas.Bool.{true≢false, eqb-true, eq-eqb, or_left, or_right, or_cases, and_from, lt-ltb, not_from_false}
 use Rattle.guides.specs.Meaning.{low, high, has, distinct, all_below}
 use Rattle.guides.proofs.Pigeonhole.{distinct_below_room}
@@ -13,6 +13,7 @@ use Rattle.records.specs.declared.record.Work.{Work}
 use Rattle.records.specs.declared.record.Work.TheVariants.{Look, After}
 use Rattle.promises.specs.Books.{Book}
 use Rattle.promises.specs.Promised.{is_chained}
+use Rattle.promises.proofs.Small.{equal_not_less, greater_not_less}
 use Rattle.promises.proofs.Laws.{Laws, before, compared, before_chains}
 use Rattle.promises.proofs.Sights.{Sight, sight_of}
 use Rattle.promises.proofs.Views.{Way, Strays, Changes}
@@ -271,12 +272,6 @@ module _ {K : Type 0} (rank : K → K → Ordering) (laws : Laws rank) (i : ℕ)
         let clash : ◌≡◌ {A = Ordering} Less Greater = sym is ∙ ap (λ q. compared rank ((sight_of b).spot q) t.key) e ∙ ap (λ x. compared rank x t.key) (inv_of b here).high_spot in
         let z : ◌≡◌ {A = ℕ} 0 1 = cc in omega arith
 
-    equal_less : ◌≡◌ {A = Ordering} Equal Less → ⊥
-    equal_less e = let z : ◌≡◌ {A = ℕ} 0 1 = cc in omega arith
-
-    greater_less : ◌≡◌ {A = Ordering} Greater Less → ⊥
-    greater_less e = let z : ◌≡◌ {A = ℕ} 0 1 = cc in omega arith
-
     goes_back : t.phase ≡ Back → (t.at ≡ low → ⊥) → Paced rank bs (sight_of b) t.phase t.downs ((sight_of b).prev t.at) (g + 1)
     goes_back e h =
         let w = in_phase Back e in
@@ -315,8 +310,8 @@ module _ {K : Type 0} (rank : K → K → Ordering) (laws : Laws rank) (i : ℕ)
     paces (Way.check_marked x0 x1 x2 x3) u e = goes_on x2 e (begins_back x0 low)
     paces (Way.check_unmarked x0 x1 x2 x3) u e = goes_on x2 e (begins_back x0 t.at)
     paces (Way.back_look_yes x0 x1 x2 x3 x4 x5) u e = goes_not x4 refl e
-    paces (Way.back_look_marked x0 x1 x2 x3 x4 x5) u e = goes_on x4 e (goes_back x0 (not_low x2 equal_less))
-    paces (Way.back_look_above x0 x1 x2 x3 x4) u e = goes_on x3 e (goes_back x0 (not_low x2 greater_less))
+    paces (Way.back_look_marked x0 x1 x2 x3 x4 x5) u e = goes_on x4 e (goes_back x0 (not_low x2 (equal_not_less refl)))
+    paces (Way.back_look_above x0 x1 x2 x3 x4) u e = goes_on x3 e (goes_back x0 (not_low x2 (greater_not_less refl)))
     paces (Way.back_look_on x0 x1 x2 x3 x4) u e = goes_on x3 e (turns x0)
     paces (Way.back_after_above x0 x1 x2 x3 x4) u e = other_work x1
     paces (Way.back_after_on x0 x1 x2 x3 x4) u e = other_work x1

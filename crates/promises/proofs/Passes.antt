@@ -1,9 +1,9 @@
 -- What an accepted step, a begin and a leave make of the places of the chain and of the struck places that wait for a work
 -- under way, and which places come to the chain. Assumes the invariant.
-use Rattle.std.proofs.Common.{◌≡◌, ℕ, zero, suc, ◌<◌, Bool, true, false, cond, not, ◌&&◌, ◌||◌, eqb, ◌⊎◌, List, [], ◌∷◌, get_or, set, is_some, Some, None, Option, Ordering, sym, refl, ap, ◌∙◌, subst, inl, inr, arith}
+use Rattle.std.proofs.Common.{◌≡◌, ℕ, ◌<◌, Bool, true, false, cond, not, ◌&&◌, eqb, ◌⊎◌, List, get_or, set, is_some, Some, None, Option, Ordering, sym, refl, ap, ◌∙◌, subst, inl, inr, arith}
 use Rattle.std.proofs.lemmas.List.{get_or-set_other}
 use Rattle.std.proofs.lemmas.Option.{slice_get-get_or}
-use Rattle.std.proofs.lemmas.Bool.{true≢false, ne_eqb, cases_eq, or_right}
+use Rattle.std.proofs.lemmas.Bool.{true≢false, ne_eqb, cases_eq}
 use Rattle.records.specs.declared.answer.Stepped.{Stepped}
 use Rattle.records.specs.declared.outcome.Outcome.{Outcome}
 use Rattle.records.specs.declared.outcome.Outcome.TheVariants.{Retires}
@@ -13,6 +13,8 @@ use Rattle.records.specs.declared.record.Status.TheVariants.{Free, InHand, Chain
 use Rattle.records.specs.declared.record.Task.{Task}
 use Rattle.engine.specs.Settling.{most_stations, anyone, retired_for as rests, without_station}
 use Rattle.promises.specs.Promised.{is_chained}
+use Rattle.promises.proofs.Overs.{chained_still}
+use Rattle.promises.proofs.Small.{anyone_of}
 use Rattle.promises.proofs.Sights.{Sight, at_with, task_put}
 use Rattle.promises.proofs.Settles.{Settling, Others, work_over, retire_put}
 use Rattle.promises.proofs.Accepted.{Made}
@@ -21,11 +23,6 @@ use Rattle.promises.proofs.Touches.{Touch, is_retiring, way_touches}
 use Rattle.promises.proofs.Keeps.{Off, Cut, FromOn, FromOff, Joins, at_other, at_same, rule_keeps_on, rule_keeps_off, rule_joins}
 
 -- ---- the set of stations that a retired place waits for
-
-anyone_of : (w : List Bool) (i : ℕ) → get_or w i false ≡ true → anyone w ≡ true
-anyone_of [] i h = absurd (true≢false (sym h))
-anyone_of (b ∷ w) zero h = ap (λ x. x || anyone w) h
-anyone_of (b ∷ w) (suc i) h = or_right b (anyone w) (anyone_of w i h)
 
 rests_waits : (w : List Bool) (i : ℕ) → get_or w i false ≡ true → waits_for i (rests w) ≡ true
 rests_waits w i h = ap (λ b. waits_for i (cond b (Retired w) Free)) (anyone_of w i h) ∙ h
@@ -37,12 +34,6 @@ rests_off w = go (anyone w)
     go true = refl
     go false = refl
 
-without_chained : (j : ℕ) (x : Status) → is_chained (without_station j x) ≡ is_chained x
-without_chained j Free = refl
-without_chained j InHand = refl
-without_chained j Chained = refl
-without_chained j (Retired w) = rests_off (set w j false)
-
 without_waits : (i j : ℕ) → (i ≡ j → ⊥) → (x : Status) → waits_for i x ≡ true → waits_for i (without_station j x) ≡ true
 without_waits i j apart Free h = h
 without_waits i j apart InHand h = h
@@ -50,7 +41,7 @@ without_waits i j apart Chained h = h
 without_waits i j apart (Retired w) h = rests_waits (set w j false) i (get_or-set_other w j i false false apart ∙ h)
 
 pub over_chained : (awaited : Bool) (j : ℕ) (x : Status) → is_chained (cond awaited (without_station j x) x) ≡ is_chained x
-over_chained true j x = without_chained j x
+over_chained true j x = chained_still j x
 over_chained false j x = refl
 
 over_waits : (awaited : Bool) (i j : ℕ) → (i ≡ j → ⊥) → (x : Status) → waits_for i x ≡ true → waits_for i (cond awaited (without_station j x) x) ≡ true

@@ -1,11 +1,12 @@
 -- The predecessor of a place of the chain is on the chain, below it. Assumes the laws of the order and the invariant.
 use Rattle.std.proofs.Common.{◌≡◌, ℕ, Bool, true, false, cond, ◌&&◌, eqb, leb, Some, None, Option, Ordering, sym, refl, ap, ◌∙◌, subst, true≢false}
 use Rattle.std.proofs.lemmas.Bool.{and_parts, eqb-true, or_left, and_from, eq-eqb}
+use Rattle.std.proofs.Math.Bool.{and-false}
 use Rattle.guides.specs.Meaning.{low, high}
 use Rattle.records.specs.declared.record.Phase.{Phase}
 use Rattle.records.specs.declared.record.Phase.TheVariants.{Enter, Down, Check, Back, On, Seek, Lock, Valid, Take, Link, LinkBack, Attach, ReleaseNew, PutEnd, TakeVictim, Mark, UnlinkBack, Unlink, Detach, ReleaseVictim, StrikeEnd, First, FirstNext}
 use Rattle.records.specs.declared.record.Task.{Task}
-use Rattle.engine.specs.Calling.{locked_by}
+use Rattle.promises.proofs.Small.{locked_is}
 use Rattle.promises.proofs.Laws.{Laws, Bound, exact, before, before_not_self, before_chains}
 use Rattle.promises.proofs.Sights.{Sight}
 use Rattle.promises.proofs.Invariant.{Inv, chained, rung, group, holds_at, is_placed, is_joined, is_keyed, is_lagging, holds, other_in, holder_in}
@@ -35,10 +36,6 @@ lags_placed ReleaseVictim h = absurd (true≢false (sym h))
 lags_placed StrikeEnd h = absurd (true≢false (sym h))
 lags_placed First h = absurd (true≢false (sym h))
 lags_placed FirstNext h = absurd (true≢false (sym h))
-
-locked_is : (j : ℕ) (l : Option ℕ) → locked_by j l ≡ true → l ≡ Some j
-locked_is j None h = absurd (true≢false (sym h))
-locked_is j (Some i) h = ap Some (eqb-true i j h)
 
 module _ {K : Type 0} (rank : K → K → Ordering) (laws : Laws rank) (s : Sight K) (inv : Inv rank s) where
   -- The place p and one below it.
@@ -80,11 +77,7 @@ module _ {K : Type 0} (rank : K → K → Ordering) (laws : Laws rank) (s : Sigh
         where
           none : (b : Bool) → eqb u.other u.at ≡ b → (is_lagging (rung u.phase) && b) ≡ false
           none true h = absurd (other_apart u isu facts.2 facts.4 (eqb-true u.other u.at h))
-          none false h = and_none (is_lagging (rung u.phase))
-            where
-              and_none : (x : Bool) → (x && false) ≡ false
-              and_none true = refl
-              and_none false = refl
+          none false h = and-false (is_lagging (rung u.phase))
 
   -- The predecessor of a place of the chain other than Low.
   pub precedes : (p : ℕ) → chained s p ≡ true → (p ≡ low → ⊥) → Precedes (s.prev p) p

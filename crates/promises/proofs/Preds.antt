@@ -1,13 +1,14 @@
 -- That the rules which write a predecessor, and the mark, keep the invariant. Assumes the laws.
 use Rattle.std.proofs.Common.{◌≡◌, ℕ, Bool, true, false, cond, not, ◌&&◌, ◌||◌, eqb, Some, None, Option, Ordering, sym, refl, ap, ◌∙◌, subst, inl, inr, arith}
 use Rattle.std.proofs.lemmas.Bool.{eq-eqb, ne_eqb, and_right, cases_eq}
-use Rattle.std.proofs.lemmas.Bool.Decides.{nat_tests}
 use Rattle.guides.specs.Meaning.{low, high}
 use Rattle.records.specs.declared.record.Task.{Task}
 use Rattle.promises.specs.Promised.{is_chained}
+use Rattle.promises.proofs.Small.{one_holder}
+use Rattle.promises.proofs.Rungs.{joined_holds, joined_placed, lagging_joined}
 use Rattle.promises.proofs.Laws.{Laws, Bound, bottom, exact, top}
 use Rattle.promises.proofs.Sights.{Sight, at_with, task_put}
-use Rattle.promises.proofs.Invariant.{rung, holds_at, holds_other, is_placed, is_keyed, is_joined, is_lagging, is_hiding, is_detaching, is_striking, is_handing, holds, other_in, holder_in, chained, seen_by, Stands, Inv}
+use Rattle.promises.proofs.Invariant.{rung, holds_other, is_keyed, is_joined, is_lagging, is_hiding, is_detaching, is_striking, is_handing, holds, other_in, holder_in, chained, seen_by, Stands, Inv}
 use Rattle.promises.proofs.Retasks.{at_with_both, Sound}
 use Rattle.promises.proofs.Sees.{never, holds_own_at, holds_own_other, at_not_high, spots_differ}
 use Rattle.promises.proofs.Relocks.{just}
@@ -16,9 +17,6 @@ use Rattle.promises.proofs.Sights.{prev_put}
 use Rattle.promises.proofs.Retasks.{holder_same}
 use Rattle.promises.proofs.Sees.{has_holder, joined_chained, joined_prev}
 use Rattle.promises.proofs.Relocks.{other_alike, awaited_with}
-
-pub one_holder : (i j : ℕ) (l : Option ℕ) → l ≡ Some i → l ≡ Some j → i ≡ j
-one_holder i j l x y = cc
 
 pub at_with_other : {A : Type 0} (f : ℕ → A) (p q : ℕ) (a : A) → (p ≡ q → ⊥) → at_with f p a q ≡ f q
 at_with_other f p q a d = at_with_both f p q a (λ x. x ≡ f q) (λ e. absurd (d e)) (λ _. refl)
@@ -87,22 +85,13 @@ module _ {K : Type 0} (rank : K → K → Ordering) (laws : Laws rank) (s : Sigh
         let holder = has_holder is_lagging s.task (s.lock (s.next t.other)) (s.next t.other) lags in
         let v = holder.has.task in
         let is = holder.has.is in
-        let vj = lag_joins (rung v.phase) holder.has.rung_is in
+        let vj = lagging_joined (rung v.phase) holder.has.rung_is in
         let so = inv.stands holder.holder v is in
-        let same = next_injective rank laws s inv v.at t.other (so.at_chained (join_placed (rung v.phase) vj)) x_chained
-        (at_not_high rank laws s inv holder.holder v is (join_placed (rung v.phase) vj)) x_not_high (so.joined vj ∙ holder.has.other_is) in
-        let who = one_holder holder.holder me (s.lock t.other) (ap s.lock (sym same) ∙ holds_own_at rank laws s inv holder.holder v is (join_holds (rung v.phase) vj)) lock_x in
+        let same = next_injective rank laws s inv v.at t.other (so.at_chained (joined_placed (rung v.phase) vj)) x_chained
+        (at_not_high rank laws s inv holder.holder v is (joined_placed (rung v.phase) vj)) x_not_high (so.joined vj ∙ holder.has.other_is) in
+        let who = one_holder holder.holder me (s.lock t.other) (ap s.lock (sym same) ∙ holds_own_at rank laws s inv holder.holder v is (joined_holds (rung v.phase) vj)) lock_x in
         let mine : v ≡ t = just v t (sym is ∙ ap s.task who ∙ is_task) in
         n_not_x (sym holder.has.other_is ∙ ap (λ y. y.other) mine)
-      where
-        lag_joins : (r : ℕ) → is_lagging r ≡ true → is_joined r ≡ true
-        lag_joins r h = grind (arith, nat_tests)
-
-        join_placed : (r : ℕ) → is_joined r ≡ true → is_placed r ≡ true
-        join_placed r h = grind (arith, nat_tests)
-
-        join_holds : (r : ℕ) → is_joined r ≡ true → holds_at r ≡ true
-        join_holds r h = grind (arith, nat_tests)
 
     abbrev task' : ℕ → Option (Task K)
     task' = at_with s.task me (Some u)

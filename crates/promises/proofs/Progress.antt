@@ -21,10 +21,11 @@ use Rattle.engine.specs.Settling.{AfterStep, settled}
 use Rattle.promises.specs.Books.{Book, work_at}
 use Rattle.promises.specs.Promised.{UnderWay, CanGoOn, is_change}
 use Rattle.promises.specs.Runs.{Reply, Does, step, begun, stepped, left, mended, listed}
+use Rattle.promises.proofs.Rungs.{three_placed}
 use Rattle.promises.proofs.Laws.{Laws, bottom, exact}
 use Rattle.promises.proofs.Sights.{Sight, sight, sight_of}
 use Rattle.promises.proofs.Accepted.{accepted_step_made}
-use Rattle.promises.proofs.Invariant.{Inv, rung, group, holds_at, holds_other, is_placed, is_keyed, is_hiding, holds, other_in, holder_in, chained}
+use Rattle.promises.proofs.Invariant.{Inv, rung, group, holds_at, holds_other, is_keyed, is_hiding, holds, other_in, holder_in, chained}
 use Rattle.promises.proofs.Chains.{Walks, chain_walks, low_is_chained, above_low, walk_has}
 use Rattle.promises.proofs.Tidy.{late_changes, holding_is_late, other_found}
 use Rattle.promises.proofs.Seats.{at_not_high, placed_is_late}
@@ -224,9 +225,6 @@ module _ {K : Type 0} (rank : K → K → Ordering) (laws : Laws rank) (b : Book
   unless_victim h victim =
       ⊎_elim victim (λ not_three. (h.station, free_goes_on h.station h.task h.is (holder_changes h) (holder_free h.station h.task h.holding not_three)))
       (cases_Bool (eqb (rung h.task.phase) 3))
-
-  three_placed : (r : ℕ) → eqb r 3 ≡ true → is_placed r ≡ true
-  three_placed r h = grind (arith, nat_tests)
 
   victim_not_high : {p : ℕ} (h : Holder p) → eqb (rung h.task.phase) 3 ≡ true → p ≡ high → ⊥
   victim_not_high h three e =

@@ -1,12 +1,13 @@
 -- That releasing the new place and the victim, and taking the victim's lock, keep the invariant. Assumes the laws.
-use Rattle.std.proofs.Common.{◌≡◌, ℕ, Bool, true, false, not, ◌&&◌, ◌||◌, eqb, leb, Some, None, Option, Ordering, sym, refl, ap, ◌∙◌, subst, arith}
+use Rattle.std.proofs.Common.{◌≡◌, ℕ, Bool, true, false, not, ◌&&◌, ◌||◌, eqb, leb, Some, None, Ordering, sym, refl, ap, ◌∙◌, subst}
 use Rattle.std.proofs.lemmas.Bool.{ne_eqb}
-use Rattle.std.proofs.lemmas.Bool.Decides.{nat_tests}
 use Rattle.guides.specs.Meaning.{high}
 use Rattle.records.specs.declared.record.Phase.{Phase}
 use Rattle.records.specs.declared.record.Phase.TheVariants.{ReleaseNew, PutEnd, TakeVictim, Mark, ReleaseVictim, StrikeEnd}
 use Rattle.records.specs.declared.record.Task.{Task}
 use Rattle.promises.specs.Promised.{is_chained}
+use Rattle.promises.proofs.Small.{one_holder}
+use Rattle.promises.proofs.Rungs.{joined_holds, joined_placed, striking_joined}
 use Rattle.promises.proofs.Laws.{Laws}
 use Rattle.records.specs.declared.outcome.Outcome.{Outcome}
 use Rattle.records.specs.declared.outcome.Outcome.TheVariants.{Goes}
@@ -45,18 +46,6 @@ module _ {K : Type 0} (rank : K → K → Ordering) (laws : Laws rank) (s : Sigh
       nh : t.at ≡ high → ⊥
       nh = at_not_high rank laws s inv me t is_task placed
 
-      striking_joined : (r : ℕ) → is_striking r ≡ true → is_joined r ≡ true
-      striking_joined r h = grind (arith, nat_tests)
-
-      joined_placed : (r : ℕ) → is_joined r ≡ true → is_placed r ≡ true
-      joined_placed r h = grind (arith, nat_tests)
-
-      joined_holds : (r : ℕ) → is_joined r ≡ true → holds_at r ≡ true
-      joined_holds r h = grind (arith, nat_tests)
-
-      same_holder : (i j : ℕ) (l : Option ℕ) → l ≡ Some i → l ≡ Some j → i ≡ j
-      same_holder i j l x y = cc
-
       go : (b : Bool) → s.marked (s.next t.at) ≡ b → b ≡ false
       go false m = refl
       go true m =
@@ -67,7 +56,7 @@ module _ {K : Type 0} (rank : K → K → Ordering) (laws : Laws rank) (s : Sigh
           let so = inv.stands found.0 v other.is in
           let same = next_injective rank laws s inv v.at t.at (so.at_chained (joined_placed (rung v.phase) joins)) c
           (at_not_high rank laws s inv found.0 v other.is (joined_placed (rung v.phase) joins)) nh (so.joined joins ∙ other.other_is) in
-          let who = same_holder found.0 me (s.lock t.at) (ap s.lock (sym same) ∙ holds_own_at rank laws s inv found.0 v other.is (joined_holds (rung v.phase) joins))
+          let who = one_holder found.0 me (s.lock t.at) (ap s.lock (sym same) ∙ holds_own_at rank laws s inv found.0 v other.is (joined_holds (rung v.phase) joins))
           (holds_own_at rank laws s inv me t is_task held) in
           let mine : v ≡ t = just v t (sym other.is ∙ ap s.task who ∙ is_task) in
           never (sym other.rung_is ∙ ap (λ x. is_striking (rung x.phase)) mine ∙ quiet)

@@ -8,12 +8,14 @@ use Rattle.records.specs.declared.record.Status.{Status}
 use Rattle.records.specs.declared.record.Status.TheVariants.{InHand, Retired}
 use Rattle.records.specs.declared.record.Task.{Task}
 use Rattle.promises.specs.Promised.{is_chained}
+use Rattle.promises.proofs.Small.{one_holder}
+use Rattle.promises.proofs.Rungs.{joined_holds, placed_holds, three_holds, between_holds, handing_holds}
 use Rattle.promises.proofs.Laws.{Laws, Bound, exact, before}
 use Rattle.records.specs.Records.{into}
 use Rattle.engine.specs.Settling.{with_steps}
 use Rattle.promises.proofs.Laws.{before_chains}
 use Rattle.promises.proofs.Sights.{Sight, at_with, task_put}
-use Rattle.promises.proofs.Invariant.{rung, group, fits, holds_at, holds_other, is_placed, is_between, is_keyed, is_marked, is_joined, is_lagging, is_hiding, is_detaching, is_striking, is_handing, holds, other_in, holder_in, chained, seen_by, Stands, Inv}
+use Rattle.promises.proofs.Invariant.{rung, group, fits, holds_at, holds_other, is_placed, is_keyed, is_marked, is_joined, is_lagging, is_hiding, is_detaching, is_striking, is_handing, holds, other_in, holder_in, chained, seen_by, Stands, Inv}
 use Rattle.promises.proofs.Retasks.{at_with_both}
 use Rattle.promises.proofs.Sees.{never, holds_own_at, holds_own_other, at_not_high, spots_differ, has_other, joined_differ}
 use Rattle.promises.proofs.Relocks.{just}
@@ -22,7 +24,7 @@ use Rattle.promises.proofs.Invariant.{waits_for}
 use Rattle.promises.proofs.Sees.{joined_chained, joined_prev}
 use Rattle.promises.proofs.Relocks.{awaited_with}
 use Rattle.promises.proofs.Sights.{next_put, status_put}
-use Rattle.promises.proofs.Preds.{one_holder, at_with_other, at_with_same, keyed_not_high, keyed_not_low, lag_elsewhere}
+use Rattle.promises.proofs.Preds.{at_with_other, at_with_same, keyed_not_high, keyed_not_low, lag_elsewhere}
 use Rattle.promises.proofs.Sees.{at_not_other}
 use Rattle.promises.proofs.Marking.{holds_by}
 
@@ -230,21 +232,6 @@ module _ {K : Type 0} (rank : K → K → Ordering) (laws : Laws rank) (s : Sigh
       where
         kept : holds_at (rung v.phase) ≡ true → next' v.at ≡ s.next v.at
         kept h = next_else v.at (λ same. d (one_holder me i (s.lock b) lock_b (ap s.lock same ∙ holds_own_at rank laws s inv i v is h)))
-
-        placed_holds : (r : ℕ) → is_placed r ≡ true → holds_at r ≡ true
-        placed_holds r h = grind (arith, nat_tests)
-
-        between_holds : (r : ℕ) → is_between r ≡ true → holds_at r ≡ true
-        between_holds r h = grind (arith, nat_tests)
-
-        three_holds : (r : ℕ) → eqb r 3 ≡ true → holds_at r ≡ true
-        three_holds r h = grind (arith, nat_tests)
-
-        joined_holds : (r : ℕ) → is_joined r ≡ true → holds_at r ≡ true
-        joined_holds r h = grind (arith, nat_tests)
-
-        handing_holds : (r : ℕ) → is_handing r ≡ true → holds_at r ≡ true
-        handing_holds r h = grind (arith, nat_tests)
 
     own : Stands rank s.spot next' s.prev s.marked status' u
     own = record {

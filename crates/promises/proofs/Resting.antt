@@ -18,11 +18,12 @@ use Rattle.engine.specs.Settling.{most_stations, anyone, retired_for as rests, w
 use Rattle.promises.specs.Books.{Book, work_at}
 use Rattle.promises.specs.Promised.{is_change, is_chained}
 use Rattle.promises.specs.Runs.{Call, Reply, Run, opened, next, begin, step, leave, mend, list, begun, stepped, left, mended, listed, is_strike, is_yes, ends_with_yes, strikes_place, is_step_of, works_in, for_work, retires_now, retired_during}
+use Rattle.promises.proofs.Small.{awaited_works}
 use Rattle.promises.proofs.Laws.{Laws}
 use Rattle.promises.proofs.Sights.{Sight, sight_of, at_with}
 use Rattle.promises.proofs.Settles.{Settling, retire_put}
 use Rattle.promises.proofs.Accepted.{Made}
-use Rattle.promises.proofs.Invariant.{Inv, rung, group, fits, is_joined, is_handing, is_awaited}
+use Rattle.promises.proofs.Invariant.{Inv, rung, group, fits, is_joined, is_handing}
 use Rattle.promises.proofs.Touches.{Touch, way_touches}
 use Rattle.promises.proofs.Keeps.{at_other, at_same}
 use Rattle.promises.proofs.Passes.{touch_tasks, clash, others_has}
@@ -56,10 +57,6 @@ over_awaits true i j apart (Retired w) = retired_awaits (set w j false) i ∙ ge
 awaiting_works : {K : Type 0} (x : Option (Task K)) → is_some (awaiting_task x) ≡ is_some x
 awaiting_works None = refl
 awaiting_works (Some t) = refl
-
-pub awaited_works : {K : Type 0} (o : Option (Task K)) → is_awaited o ≡ true → is_some o ≡ true
-awaited_works None h = h
-awaited_works (Some t) h = refl
 
 chained_awaits_none : (i : ℕ) (x : Status) → is_chained x ≡ true → awaits_in i x ≡ false
 chained_awaits_none i Free h = refl

@@ -8,6 +8,7 @@ use Rattle.records.specs.declared.record.Status.TheVariants.{Free, InHand, Retir
 use Rattle.records.specs.declared.record.Task.{Task}
 use Rattle.engine.specs.Calling.{locked_by}
 use Rattle.promises.specs.Promised.{is_chained}
+use Rattle.promises.proofs.Small.{anyone_of}
 use Rattle.promises.proofs.Laws.{Laws}
 use Rattle.promises.proofs.Sights.{Sight, at_with}
 use Rattle.promises.proofs.Invariant.{rung, group, fits, holds_at, holds_other, is_placed, is_marked, is_lagging, is_hiding, is_detaching, is_striking, is_handing, holds, other_in, is_awaited, holder_in, chained, seen_by, Stands, Inv}
@@ -20,7 +21,6 @@ use Rattle.std.proofs.lemmas.List.{get_or_past}
 use Rattle.std.proofs.lemmas.Option.{slice_get-get_or}
 use Rattle.engine.specs.Settling.{most_stations, anyone, retired_for as rests, awaiting_task, with_await}
 use Rattle.promises.proofs.Settles.{Others}
-use Rattle.promises.proofs.Overs.{nobody}
 
 -- A sight with another status of one place, another lock of one, and every other work awaited.
 abbrev pub retired_by : {K : Type 0} → ℕ → ℕ → ℕ → Status → Sight K → Sight K
@@ -77,13 +77,6 @@ module _ {K : Type 0} where
   waits_since me s w o j less d h =
       just _ _ (sym (slice_get-get_or w j false (subst (λ k. j < k) (sym o.many) less)) ∙ o.each j less)
       ∙ and_from (not (eqb j me)) _ (ap not (ne_eqb j me (λ same. d (sym same)))) h
-
-somebody : (w : List Bool) (j : ℕ) → get_or w j false ≡ true → anyone w ≡ true
-somebody w j h = go (anyone w) refl
-  where
-    go : (c : Bool) → anyone w ≡ c → c ≡ true
-    go true e = refl
-    go false e = never (sym h ∙ nobody w j e)
 
 rests_some : (w : List Bool) → anyone w ≡ true → rests w ≡ Retired w
 rests_some w h = ap (λ c. cond c (Retired w) Free) h
@@ -169,7 +162,7 @@ module _ {K : Type 0} (rank : K → K → Ordering) (laws : Laws rank) (s : Sigh
   seen' : (i p : ℕ) → (me ≡ i → ⊥) → is_some (s.task i) ≡ true → seen_by s i p ≡ true → (is_chained (status' p) || (s.marked p && waits_for i (status' p))) ≡ true
   seen' i p d works h = elim (cases_eq x p) [
     | inl same ↦ subst (λ q. (is_chained (status' q) || (s.marked q && waits_for i (status' q))) ≡ true) same
-        (or_right (is_chained (status' x)) _ (and_from _ _ x_marked (ap (waits_for i) (x_now ∙ rests_some w (somebody w i waits)) ∙ waits)))
+        (or_right (is_chained (status' x)) _ (and_from _ _ x_marked (ap (waits_for i) (x_now ∙ rests_some w (anyone_of w i waits)) ∙ waits)))
     | inr k ↦ ap (λ y. is_chained y || (s.marked p && waits_for i y)) (status_else p k) ∙ h
   ]
     where

@@ -8,7 +8,7 @@ use Rattle.records.specs.declared.record.Phase.{Phase}
 use Rattle.records.specs.declared.record.Phase.TheVariants.{Enter, Down, Check, Back, On, Seek, Lock, Valid, Take, Link, LinkBack, Attach, ReleaseNew, PutEnd, TakeVictim, Mark, UnlinkBack, Unlink, Detach, ReleaseVictim, StrikeEnd, First, FirstNext}
 use Rattle.records.specs.declared.record.Place.{Place}
 use Rattle.records.specs.declared.record.Status.{Status}
-use Rattle.records.specs.declared.record.Status.TheVariants.{Free, InHand, Chained, Retired}
+use Rattle.records.specs.declared.record.Status.TheVariants.{Free}
 use Rattle.records.specs.declared.record.Task.{Task}
 use Rattle.records.specs.declared.record.Work.{Work}
 use Rattle.records.specs.declared.record.Work.TheVariants.{Put, Strike, Look, First as FirstWork, After}
@@ -16,6 +16,7 @@ use Rattle.records.specs.Records.{first_phase}
 use Rattle.rules.specs.Putting.{is_free}
 use Rattle.engine.specs.Contents.{field_of}
 use Rattle.promises.specs.Alone.{any_free, room_in}
+use Rattle.promises.proofs.Small.{only_free}
 use Rattle.promises.proofs.Sights.{Sight}
 use Rattle.promises.proofs.Views.{Way, Strays}
 use Rattle.promises.proofs.Invariant.{rung, group, fits}
@@ -68,12 +69,6 @@ done_taken StrikeEnd h d = absurd (true≢false (sym h))
 done_taken First h d = absurd (omega arith)
 done_taken FirstNext h d = absurd (omega arith)
 
-free_only : (x : Status) → is_free x ≡ true → x ≡ Free
-free_only Free h = refl
-free_only InHand h = cc
-free_only Chained h = cc
-free_only (Retired w) h = cc
-
 module _ {K : Type 0} where
   -- ---- free places of a list
 
@@ -91,7 +86,7 @@ module _ {K : Type 0} where
     where
       by : (any_free ps ≡ true → (q : ℕ) × (q < length ps) × (status_at ps q ≡ Free)) → (is_free x.status ≡ true) ⊎ (any_free ps ≡ true)
           → (q : ℕ) × (q < length (x ∷ ps)) × (status_at (x ∷ ps) q ≡ Free)
-      by rest (inl e) = (0, omega arith, free_only x.status e)
+      by rest (inl e) = (0, omega arith, only_free x.status e)
       by rest (inr e) = let more = rest e in let less : more.0 < length ps = more.1 in (suc more.0, omega arith, more.2)
 
   -- A place from 2 on is free.

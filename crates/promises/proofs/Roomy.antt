@@ -20,6 +20,7 @@ use Rattle.promises.specs.Truths.{Holds}
 use Rattle.promises.specs.Runs.{Does, Run, step, stepped}
 use Rattle.promises.specs.Promised.{is_change, Promises, EndsWith}
 use Rattle.promises.specs.Alone.{has_room, WorksAlone, began_in}
+use Rattle.promises.proofs.Small.{true_and_false}
 use Rattle.promises.proofs.Laws.{Laws}
 use Rattle.promises.proofs.Sights.{Sight, sight_of}
 use Rattle.promises.proofs.Views.{Way}
@@ -38,9 +39,6 @@ use Rattle.promises.proofs.Rooms.{is_taken, begins_untaken, done_taken, Room, ro
 put_strikes_not : {P : Type 0} {w : Work} → w ≡ Put → fits w 5 ≡ true → P
 put_strikes_not e h = absurd (true≢false (sym h ∙ ap (λ v. fits v 5) e))
 
-never : {P : Type 0} {x : Bool} → x ≡ true → x ≡ false → P
-never h k = absurd (true≢false (sym h ∙ k))
-
 module _ {K : Type 0} where
   abbrev ends_full : Outcome K → Bool
   ends_full (Goes u) = false
@@ -49,7 +47,7 @@ module _ {K : Type 0} where
   ends_full (Retires p) = false
 
   ends_other : {P : Type 0} {o x : Outcome K} → o ≡ x → ends_full x ≡ false → o ≡ Ends NoRoom → P
-  ends_other e calm h = never (ap ends_full h) (ap ends_full e ∙ calm)
+  ends_other e calm h = true_and_false (ap ends_full h) (ap ends_full e ∙ calm)
 
 module _ {K : Type 0} {rank : K → K → Ordering} {s : Sight K} {me : ℕ} {t : Task K} {o : Outcome K} {s' : Sight K} where
   -- Only TAKE ends with NO ROOM, and then no place is free.
@@ -129,10 +127,10 @@ module _ {K : Type 0} (rank : K → K → Ordering) (laws : Laws rank) (inv : (b
     rooms_by (Rooms.keeps h k st) = record {
       size = size_still;
       untaken = λ w _. ap (λ z. z.status) (goes_settles made.settling u goes).1 ∙ st ∙ roomy.untaken (same_work w) h;
-      taken = λ w e. never e k;
+      taken = λ w e. true_and_false e k;
     }
-    rooms_by (Rooms.takes h k p c within f) = record { size = size_still; untaken = λ w e. never k e; taken = λ w _. room_there (same_work w) h p c within f }
-    rooms_by (Rooms.has h k) = record { size = size_still; untaken = λ w e. never k e; taken = λ w _. roomy.taken (same_work w) h }
+    rooms_by (Rooms.takes h k p c within f) = record { size = size_still; untaken = λ w e. true_and_false k e; taken = λ w _. room_there (same_work w) h p c within f }
+    rooms_by (Rooms.has h k) = record { size = size_still; untaken = λ w e. true_and_false k e; taken = λ w _. roomy.taken (same_work w) h }
     rooms_by (Rooms.strikes g) =
         let not_put = (λ (w : u.work ≡ Put). put_strikes_not {P = ⊥} (same_work w) (sym (ap (fits made.task.work) g) ∙ (inv b r).fit i made.task made.under_way)) in
         record { size = size_still; untaken = λ w _. absurd (not_put w); taken = λ w _. absurd (not_put w) }
@@ -140,7 +138,7 @@ module _ {K : Type 0} (rank : K → K → Ordering) (laws : Laws rank) (inv : (b
   alone_roomy : {b : Book K} (r : Run rank b) (t : Task K) → work_at b i ≡ Some t → WorksAlone rank r i → Roomy (began_in rank r i) b t
   alone_roomy r t is alone =
       alone_holds rank i inv promised (λ bs o b u g n. Roomy o b u)
-      (λ b s h w k was. record { size = refl; untaken = λ _ _. refl; taken = λ _ e. never e (begins_untaken w) })
+      (λ b s h w k was. record { size = refl; untaken = λ _ _. refl; taken = λ _ e. true_and_false e (begins_untaken w) })
       (λ bs o b u g n h. h)
       (λ bs o b g n s h x b' d made roomy u goes is' h'. rooms_by o b s x b' d made roomy u goes (way_rooms made.way u goes))
       r t is alone
@@ -170,7 +168,7 @@ module _ {K : Type 0} (rank : K → K → Ordering) (laws : Laws rank) (inv : (b
         by (EndedBy.by_yes done still change ok) =
             let room = roomy.taken puts_too (done_taken made.task.phase fit done) in
             room_by (began_in rank r i).places room.place room.counts room.within room.free
-        by (EndedBy.by_other done still reads) = never (ap is_change puts_too) (reads said)
+        by (EndedBy.by_other done still reads) = true_and_false (ap is_change puts_too) (reads said)
 
     module _ (said : a ≡ NoRoom) where
       ended_so : (o : Outcome K) → made.outcome ≡ o → Settling made.mid i made.task o (Ended a n) (sight_of b') → made.outcome ≡ Ends NoRoom

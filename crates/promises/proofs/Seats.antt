@@ -9,6 +9,7 @@ use Rattle.records.specs.declared.record.Status.TheVariants.{Free, InHand, Chain
 use Rattle.records.specs.declared.record.Task.{Task}
 use Rattle.engine.specs.Calling.{locked_by}
 use Rattle.promises.specs.Promised.{is_chained}
+use Rattle.promises.proofs.Rungs.{placed_holds, joined_placed}
 use Rattle.promises.proofs.Laws.{Laws, Bound, exact, top, before, before_not_self, before_once}
 use Rattle.promises.proofs.Sights.{Sight}
 use Rattle.promises.proofs.Invariant.{Inv, rung, group, holds_at, holds_other, is_placed, is_joined, is_keyed, is_handing, waits_for, holds, chained, seen_by}
@@ -16,9 +17,6 @@ use Rattle.promises.proofs.Chains.{chained_within, nothing_after_top}
 use Rattle.promises.proofs.Tidy.{holding_is_late, other_found}
 
 -- ---- which rungs are among which
-
-pub joined_placed : (r : ℕ) → is_joined r ≡ true → is_placed r ≡ true
-joined_placed r h = grind (arith, nat_tests)
 
 pub joined_keyed : (r : ℕ) → is_joined r ≡ true → is_keyed r ≡ true
 joined_keyed r h = grind (arith, nat_tests)
@@ -28,9 +26,6 @@ handing_placed r h = grind (arith, nat_tests)
 
 pub handing_keyed : (r : ℕ) → is_handing r ≡ true → is_keyed r ≡ true
 handing_keyed r h = grind (arith, nat_tests)
-
-pub placed_holds : (r : ℕ) → is_placed r ≡ true → holds_at r ≡ true
-placed_holds r h = grind (arith, nat_tests)
 
 module _ {K : Type 0} (rank : K → K → Ordering) (laws : Laws rank) (s : Sight K) (inv : Inv rank s) where
   -- ---- locks

@@ -2,14 +2,16 @@
 use Rattle.std.proofs.Common.{◌≡◌, ℕ, Bool, true, false, cond, not, ◌&&◌, ◌||◌, eqb, leb, ◌⊎◌, List, get_or, Some, None, Option, Ordering, sym, refl, ap, ◌∙◌, inl, inr, arith}
 use Rattle.std.proofs.lemmas.Bool.{eqb-true, eq-eqb, ne_eqb, or_left, or_right, or_cases, and_parts, and_from, and_right}
 use Rattle.std.proofs.lemmas.Bool.Decides.{nat_tests}
+use Rattle.std.proofs.Math.Bool.{and-false}
 use Rattle.guides.specs.Meaning.{low, high, has}
 use Rattle.records.specs.declared.record.Phase.{Phase}
 use Rattle.records.specs.declared.record.Phase.TheVariants.{Enter, Down, Check, Back, On, Seek, Lock, Valid, Take, Link, LinkBack, Attach, ReleaseNew, PutEnd, TakeVictim, Mark, UnlinkBack, Unlink, Detach, ReleaseVictim, StrikeEnd, First, FirstNext}
 use Rattle.records.specs.declared.record.Status.{Status}
 use Rattle.records.specs.declared.record.Status.TheVariants.{Free, InHand, Chained, Retired}
 use Rattle.records.specs.declared.record.Task.{Task}
-use Rattle.engine.specs.Calling.{locked_by}
 use Rattle.promises.specs.Promised.{is_chained}
+use Rattle.promises.proofs.Small.{locked_is}
+use Rattle.promises.proofs.Rungs.{lagging_joined}
 use Rattle.promises.proofs.Laws.{Laws, Bound, bottom, exact, top, before}
 use Rattle.promises.proofs.Laws.{before_not_self}
 use Rattle.promises.proofs.Sights.{Sight}
@@ -122,11 +124,7 @@ module _ {K : Type 0} (rank : K → K → Ordering) (s : Sight K) (inv : Inv ran
   sees i p h = go (s.status p) refl h
     where
       go : (x : Status) → s.status p ≡ x → (is_chained x || (s.marked p && waits_for i x)) ≡ true → Sees i p
-      go Free e h = never (sym h ∙ nothing (s.marked p))
-        where
-          nothing : (b : Bool) → (false || (b && false)) ≡ false
-          nothing true = refl
-          nothing false = refl
+      go Free e h = never (sym h ∙ and-false (s.marked p))
       go InHand e h = in_hand e (and_parts (s.marked p) true h).0
       go Chained e h = on_chain (ap is_chained e)
       go (Retired w) e h = let both = and_parts (s.marked p) (get_or w i false) h in retired w e both.0 both.1
@@ -142,9 +140,6 @@ module _ {K : Type 0} (rank : K → K → Ordering) (s : Sight K) (inv : Inv ran
       go (retired w e m g) = inv.next_seen p w e i g
 
 -- Whoever the lock is held by.
-pub locked_by_is : (i : ℕ) (l : Option ℕ) → locked_by i l ≡ true → l ≡ Some i
-locked_by_is i None h = never (sym h)
-locked_by_is i (Some j) h = ap Some (eqb-true j i h)
 
 module _ {K : Type 0} (rank : K → K → Ordering) (laws : Laws rank) (s : Sight K) (inv : Inv rank s) where
   pub spots_differ : (p q : ℕ) → before rank (s.spot p) (s.spot q) ≡ true → p ≡ q → ⊥
@@ -152,7 +147,7 @@ module _ {K : Type 0} (rank : K → K → Ordering) (laws : Laws rank) (s : Sigh
 
   module _ (i : ℕ) (t : Task K) (is : s.task i ≡ Some t) where
     pub holds_own : (p : ℕ) → holds (Some t) p ≡ true → s.lock p ≡ Some i
-    holds_own p h = locked_by_is i (s.lock p) (inv.locks i p ∙ ap (λ x. holds x p) is ∙ h)
+    holds_own p h = locked_is i (s.lock p) (inv.locks i p ∙ ap (λ x. holds x p) is ∙ h)
 
     pub holds_own_at : holds_at (rung t.phase) ≡ true → s.lock t.at ≡ Some i
     holds_own_at h = holds_own t.at (or_left (holds_at (rung t.phase) && eqb t.at t.at) _ (and_from _ _ h (eq-eqb t.at t.at refl)))
@@ -217,9 +212,6 @@ module _ {K : Type 0} (rank : K → K → Ordering) (laws : Laws rank) (s : Sigh
           let st = inv.stands i t is in
           ap s.prev (sym (st.joined joins)) ∙ inv.backs t.at (st.at_chained joined_placed) (at_not_high joined_placed)
           ∙ ap (λ b. cond b (s.prev t.at) t.at) (at_not_other is_lagging joined_holds joined_differ)
-
-  lagging_joined : (r : ℕ) → is_lagging r ≡ true → is_joined r ≡ true
-  lagging_joined r h = grind (arith, nat_tests)
 
   -- The predecessor of a chained place is chained.
   pub prev_chained : (p : ℕ) → chained s p ≡ true → (p ≡ low → ⊥) → chained s (s.prev p) ≡ true

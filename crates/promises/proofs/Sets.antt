@@ -8,18 +8,9 @@ use Rattle.records.specs.declared.record.Work.{Work}
 use Rattle.records.specs.declared.record.Work.TheVariants.{Put, Strike, Look, First, After}
 use Rattle.promises.specs.Truths.{Holds, Adds, TakesAway, Rises, Smallest, SmallestAbove, TrueOf}
 use Rattle.promises.specs.Alone.{is_in, with_key_in, without_key, first_key, first_above, set_answer, set_after}
-use Rattle.promises.proofs.Laws.{Laws, less_from_before}
+use Rattle.promises.proofs.Small.{equal_only, itself}
+use Rattle.promises.proofs.Laws.{Laws, less_only}
 use Rattle.promises.proofs.Members.{rises_same}
-
-pub itself : (o : Ordering) → o ≡ ordering_reverse o → o ≡ Equal
-itself Less h = cc
-itself Equal h = refl
-itself Greater h = cc
-
-pub equal_only : (o : Ordering) → is_eq o ≡ true → o ≡ Equal
-equal_only Less h = cc
-equal_only Equal h = refl
-equal_only Greater h = cc
 
 -- Neither equal nor greater.
 less_left : (o : Ordering) → is_lt (ordering_reverse o) ≡ false → (o ≡ Equal → ⊥) → o ≡ Less
@@ -115,7 +106,7 @@ module _ {K : Type 0} (rank : K → K → Ordering) (laws : Laws rank) where
       over l y (inr m) = r.0 y m
 
       go : Rises rank (with_key_in rank k xs) → (c : Bool) → is_lt (rank k x) ≡ c → Rises rank (cond c (k ∷ (x ∷ xs)) (x ∷ with_key_in rank k xs))
-      go rest true e = (above (less_from_before rank (rank k x) e), r)
+      go rest true e = (above (less_only (rank k x) e), r)
       go rest false e = ((λ y h. over (below e) y (put_from k y xs h)), rest)
 
   -- The keys after a key was added are those of the set after a put.
@@ -204,7 +195,7 @@ module _ {K : Type 0} (rank : K → K → Ordering) (laws : Laws rank) where
 
       go : (Holds j xs → Found j ≡ first_above rank k xs) → (c : Bool) → is_lt (rank k x) ≡ c → (x ≡ j) ⊎ Holds j xs → Found j ≡ cond c (Found x) (first_above rank k xs)
       go rest true e (inl same) = ap Found (sym same)
-      go rest true e (inr h) = absurd (s.least x (inl refl) (less_from_before rank (rank k x) e) (r.0 j h))
+      go rest true e (inr h) = absurd (s.least x (inl refl) (less_only (rank k x) e) (r.0 j h))
       go rest false e (inl same) = absurd (above_not e same)
       go rest false e (inr h) = rest h
 
@@ -213,7 +204,7 @@ module _ {K : Type 0} (rank : K → K → Ordering) (laws : Laws rank) where
   missing_above k (x ∷ xs) none = go (missing_above k xs (λ j h. none j (inr h))) (is_lt (rank k x)) refl
     where
       go : Missing ≡ first_above rank k xs → (c : Bool) → is_lt (rank k x) ≡ c → Missing ≡ cond c (Found x) (first_above rank k xs)
-      go rest true e = absurd (none x (inl refl) (less_from_before rank (rank k x) e))
+      go rest true e = absurd (none x (inl refl) (less_only (rank k x) e))
       go rest false e = rest
 
   -- ---- an answer that is true of the keys is that of the set, which stays as it is

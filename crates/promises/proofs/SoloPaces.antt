@@ -14,6 +14,7 @@ use Rattle.records.specs.declared.record.Work.TheVariants.{Put, Strike, Look, Fi
 use Rattle.records.specs.Records.{first_phase}
 use Rattle.promises.specs.Promised.{is_chained}
 use Rattle.promises.specs.Alone.{alone_steps}
+use Rattle.promises.proofs.Small.{up_not_less, equal_not_less, greater_not_less}
 use Rattle.promises.proofs.Laws.{Laws, Bound, bottom, exact, top, before, compared}
 use Rattle.promises.proofs.Sights.{Sight}
 use Rattle.promises.proofs.Views.{Way, Strays}
@@ -221,12 +222,6 @@ module _ {K : Type 0} (rank : K → K → Ordering) where
         valid_few : t.phase ≡ Valid → g + 1 ≤ 67 + 2 * s.size
         valid_few e = let w = in_phase Valid e in omega (arith, w.0)
 
-        equal_less : ◌≡◌ {A = Ordering} Equal Less → ⊥
-        equal_less e = let z : ◌≡◌ {A = ℕ} 0 1 = cc in omega arith
-
-        greater_less : ◌≡◌ {A = Ordering} Greater Less → ⊥
-        greater_less e = let z : ◌≡◌ {A = ℕ} 0 1 = cc in omega arith
-
         less_greater : ◌≡◌ {A = Ordering} Less Greater → ⊥
         less_greater e = let z : ◌≡◌ {A = ℕ} 0 1 = cc in omega arith
 
@@ -234,16 +229,12 @@ module _ {K : Type 0} (rank : K → K → Ordering) where
         equal_greater e = let z : ◌≡◌ {A = ℕ} 0 1 = cc in omega arith
 
         up_not_low : (p : ℕ) → (compared rank (s.spot p) t.key ≡ Equal) ⊎ (compared rank (s.spot p) t.key ≡ Greater) → p ≡ low → ⊥
-        up_not_low p (inl h) = not_low p h equal_less
-        up_not_low p (inr h) = not_low p h greater_less
+        up_not_low p (inl h) = not_low p h (equal_not_less refl)
+        up_not_low p (inr h) = not_low p h (greater_not_less refl)
 
         down_not_high : (p : ℕ) → (compared rank (s.spot p) t.key ≡ Less) ⊎ (compared rank (s.spot p) t.key ≡ Equal) → p ≡ high → ⊥
         down_not_high p (inl h) = not_high p h less_greater
         down_not_high p (inr h) = not_high p h equal_greater
-
-        up_not_less : {o : Ordering} → (o ≡ Equal) ⊎ (o ≡ Greater) → o ≡ Less → ⊥
-        up_not_less (inl h) e = equal_less (sym h ∙ e)
-        up_not_less (inr h) e = greater_less (sym h ∙ e)
 
         at_not_high : leb 3 (group t.phase) ≡ true → t.at ≡ high → ⊥
         at_not_high late e = true≢false (sym (below_high late) ∙ ap (λ q. before rank (s.spot q) (s.spot high)) e ∙ ap (λ x. before rank x x) inv.high_spot)
@@ -267,10 +258,10 @@ module _ {K : Type 0} (rank : K → K → Ordering) where
         paces (Way.check_marked x0 x1 x2 x3) u e = goes_on x2 e x3 (checked x0 low low_on)
         paces (Way.check_unmarked x0 x1 x2 x3) u e = goes_on x2 e x3 (checked x0 t.at (in_phase Check x0).1)
         paces (Way.back_look_yes x0 x1 x2 x3 x4 x5) u e = goes_not x4 refl e
-        paces (Way.back_look_marked x0 x1 x2 x3 x4 x5) u e = goes_on x4 e x5 (goes_back x0 (not_low t.at x2 equal_less))
-        paces (Way.back_look_above x0 x1 x2 x3 x4) u e = goes_on x3 e x4 (goes_back x0 (not_low t.at x2 greater_less))
+        paces (Way.back_look_marked x0 x1 x2 x3 x4 x5) u e = goes_on x4 e x5 (goes_back x0 (not_low t.at x2 (equal_not_less refl)))
+        paces (Way.back_look_above x0 x1 x2 x3 x4) u e = goes_on x3 e x4 (goes_back x0 (not_low t.at x2 (greater_not_less refl)))
         paces (Way.back_look_on x0 x1 x2 x3 x4) u e = goes_on x3 e x4 (turns x0)
-        paces (Way.back_after_above x0 x1 x2 x3 x4) u e = goes_on x3 e x4 (goes_back x0 (not_low t.at x2 greater_less))
+        paces (Way.back_after_above x0 x1 x2 x3 x4) u e = goes_on x3 e x4 (goes_back x0 (not_low t.at x2 (greater_not_less refl)))
         paces (Way.back_after_on x0 x1 x2 x3 x4) u e = goes_on x3 e x4 (turns x0)
         paces (Way.back_change_above x0 x1 x2 x3 x4) u e = goes_on x3 e x4 (goes_back x0 (up_not_low t.at x2))
         paces (Way.back_change_seek x0 x1 x2 x3 x4) u e = goes_on x3 e x4 (turns x0)

@@ -1,15 +1,13 @@
 -- The books of a work's span: each is the end of a run, and what a reading work knows of the place on which it stands holds
 -- of every run. Assumes the invariant of every book of a run, and that the predecessor of a place of the chain is on it.
-use Rattle.std.proofs.Common.{◌≡◌, ℕ, Bool, true, false, ◌⊎◌, List, [], ◌∷◌, is_some, Some, Ordering, sym, refl, ap, ◌∙◌, subst, inl, inr}
-use Rattle.std.proofs.lemmas.Bool.{true≢false}
+use Rattle.std.proofs.Common.{◌≡◌, ℕ, Bool, true, false, ◌⊎◌, List, [], ◌∷◌, is_some, Some, Ordering, sym, ap, ◌∙◌, subst, inl, inr}
 use Rattle.guides.specs.Meaning.{low}
 use Rattle.records.specs.declared.outcome.Outcome.TheVariants.{Goes, Waits}
 use Rattle.records.specs.declared.record.Task.{Task}
-use Rattle.records.specs.declared.record.Work.{Work}
-use Rattle.records.specs.declared.record.Work.TheVariants.{Put, Strike, Look, First as FirstWork, After}
 use Rattle.engine.specs.Settling.{with_await}
 use Rattle.promises.specs.Books.{Book, work_at}
 use Rattle.promises.specs.Runs.{Call, Reply, Does, Run, opened, next, works_in, for_work, since}
+use Rattle.promises.proofs.Small.{fits_first}
 use Rattle.promises.proofs.Laws.{Laws}
 use Rattle.promises.proofs.Sights.{sight_of}
 use Rattle.promises.proofs.Invariant.{Inv, chained, fits, group}
@@ -18,12 +16,6 @@ use Rattle.promises.proofs.Works.{Comes, call_comes, none_not_some}
 use Rattle.promises.proofs.Walked.{Walked, walks, walked_first, more_walked}
 
 -- Only a first comes to FIRST.
-pub fit_first : (w : Work) → fits w 2 ≡ true → w ≡ FirstWork
-fit_first Put h = absurd (true≢false (sym h))
-fit_first Strike h = absurd (true≢false (sym h))
-fit_first Look h = absurd (true≢false (sym h))
-fit_first FirstWork h = refl
-fit_first After h = absurd (true≢false (sym h))
 
 module _ {K : Type 0} (rank : K → K → Ordering) where
   pub since_more : {b : Book K} (c : Call K) (a : Reply K) (b' : Book K) (r : Run rank b) (d : Does rank b c a b') (i : ℕ) → works_in rank b i ≡ true → works_in rank b' i ≡ true
@@ -75,7 +67,7 @@ module _ {K : Type 0} (rank : K → K → Ordering) where
         by (inl oc) =
             walks rank laws i b (since rank r i) (now_among rank r i works) (λ σ m. inv σ (since_runs r i σ m)) (λ σ m p on. hindsight rank inv r i works σ p on m)
             (λ σ m. prevs σ (since_runs r i σ m)) made.task ((inv b r).seen i made.task made.under_way) (before made.task made.under_way)
-            (λ f. fit_first made.task.work (ap (λ g. fits made.task.work (group g)) (sym f) ∙ (inv b r).fit i made.task made.under_way))
+            (λ f. fits_first made.task.work (ap (λ g. fits made.task.work (group g)) (sym f) ∙ (inv b r).fit i made.task made.under_way))
             made.way u oc
         by (inr stays) = subst (Walks (since rank r i)) (sym stays.1) (before made.task made.under_way)
 

@@ -15,13 +15,14 @@ use Rattle.engine.specs.Counting.{is_in_hand, is_chained, is_retired}
 use Rattle.promises.specs.Books.{Book, work_at}
 use Rattle.promises.specs.Statuses.{InHands, IsInHand, IsRetired, StatusIsExact}
 use Rattle.promises.specs.Runs.{Run, retired_during}
+use Rattle.promises.proofs.Small.{only_free, awaited_works}
 use Rattle.promises.proofs.Laws.{Laws}
 use Rattle.promises.proofs.Sights.{Sight, sight_of}
 use Rattle.promises.proofs.Invariant.{Inv, rung, group, is_joined, is_handing, chained}
 use Rattle.promises.proofs.Chains.{chain_has}
 use Rattle.promises.proofs.Tidy.{late_changes, holding_is_late, handing_holds, other_found, anyone_found}
 use Rattle.promises.proofs.Seats.{at_leads, joined_chained}
-use Rattle.promises.proofs.Resting.{awaits_in, awaited_works, awaits_known}
+use Rattle.promises.proofs.Resting.{awaits_in, awaits_known}
 use Rattle.promises.proofs.InHands.{is_early, is_put_end, end_is_placed, other_known}
 
 -- A work that has taken its other place and not released it has it on the chain or in its hands.
@@ -55,12 +56,6 @@ hand_only Free h = absurd (false≢true h)
 hand_only InHand h = refl
 hand_only Chained h = absurd (false≢true h)
 hand_only (Retired w) h = absurd (false≢true h)
-
-free_only : (x : Status) → is_free x ≡ true → x ≡ Free
-free_only Free h = refl
-free_only InHand h = absurd (false≢true h)
-free_only Chained h = absurd (false≢true h)
-free_only (Retired w) h = absurd (false≢true h)
 
 retired_only : (x : Status) → is_retired x ≡ true → (w : List Bool) × (x ≡ Retired w)
 retired_only Free h = absurd (false≢true h)
@@ -152,7 +147,7 @@ module _ {K : Type 0} (rank : K → K → Ordering) (laws : Laws rank) (inv : (b
     in_hand = in_hands;
     retired = retires;
     free = (
-      λ h. let e = free_only x.status h in (
+      λ h. let e = only_free x.status h in (
         on_chain ∙ ap is_chained (seen ∙ e),
         λ held. true≢false (sym (in_hands.1 held) ∙ ap is_in_hand e),
         λ was. true≢false (sym (retires.1 was) ∙ ap is_retired e),

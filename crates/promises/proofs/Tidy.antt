@@ -19,6 +19,7 @@ use Rattle.engine.specs.Settling.{anyone}
 use Rattle.promises.specs.Books.{Book, work_at}
 use Rattle.promises.specs.Promised.{is_change, is_retired, is_chained, IsTidy, StatusIsTrue}
 use Rattle.promises.specs.Runs.{works_in}
+use Rattle.promises.proofs.Small.{awaited_works}
 use Rattle.promises.proofs.Laws.{Laws}
 use Rattle.promises.proofs.Sights.{Sight, sight_of}
 use Rattle.promises.proofs.Invariant.{Inv, rung, group, fits, is_handing, is_hiding, is_detaching, holds, other_in, holder_in, is_awaited, chained, shown}
@@ -75,10 +76,6 @@ pub anyone_found : (w : List Bool) → anyone w ≡ true → (i : ℕ) × (slice
 anyone_found [] h = absurd (false≢true h)
 anyone_found (true ∷ w) h = (0, refl, refl)
 anyone_found (false ∷ w) h = let rest = anyone_found w h in (suc rest.0, rest.1, rest.2)
-
-awaited_works : {K : Type 0} (o : Option (Task K)) → is_awaited o ≡ true → is_some o ≡ true
-awaited_works None h = h
-awaited_works (Some t) h = refl
 
 module _ {K : Type 0} (rank : K → K → Ordering) (laws : Laws rank) (b : Book K) (inv : Inv rank (sight_of b)) where
   pub status_is_true : (p : ℕ) (x : Place K) → 2 ≤ p → slice_get b.places p ≡ Some x → StatusIsTrue rank b p x

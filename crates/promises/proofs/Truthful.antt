@@ -18,6 +18,8 @@ use Rattle.promises.specs.Books.{Book, keys, work_at}
 use Rattle.promises.specs.Promised.{is_change, IsChangeDone, AtSome, AnswersAreTrue}
 use Rattle.promises.specs.Runs.{Run, since}
 use Rattle.promises.specs.Truths.{Holds, TrueOf}
+use Rattle.promises.proofs.Chains.{nothing_before_bottom}
+use Rattle.promises.proofs.Small.{fits_first, fits_put, fits_strike}
 use Rattle.promises.proofs.Laws.{Laws, Bound, bottom, exact, top, before, compared, equal_is_exact, greater_is_after}
 use Rattle.promises.proofs.Sights.{Sight, sight_of}
 use Rattle.promises.proofs.Views.{Way}
@@ -32,36 +34,10 @@ use Rattle.promises.proofs.Walked.{Walked, LowKnown, Came, low_for, low_not_high
 use Rattle.promises.proofs.Spans.{since_runs, walked}
 use Rattle.promises.proofs.Moments.{ShowsKeys, never_both, absent_next, absent_marked, smallest_above, none_above, smallest_of, none_at_all, valid_next_unmarked, at_low}
 
-fit_2 : (w : Work) → fits w 2 ≡ true → w ≡ FirstWork
-fit_2 Put h = absurd (true≢false (sym h))
-fit_2 Strike h = absurd (true≢false (sym h))
-fit_2 Look h = absurd (true≢false (sym h))
-fit_2 FirstWork h = refl
-fit_2 After h = absurd (true≢false (sym h))
-
-fit_4 : (w : Work) → fits w 4 ≡ true → w ≡ Put
-fit_4 Put h = refl
-fit_4 Strike h = absurd (true≢false (sym h))
-fit_4 Look h = absurd (true≢false (sym h))
-fit_4 FirstWork h = absurd (true≢false (sym h))
-fit_4 After h = absurd (true≢false (sym h))
-
-fit_5 : (w : Work) → fits w 5 ≡ true → w ≡ Strike
-fit_5 Put h = absurd (true≢false (sym h))
-fit_5 Strike h = refl
-fit_5 Look h = absurd (true≢false (sym h))
-fit_5 FirstWork h = absurd (true≢false (sym h))
-fit_5 After h = absurd (true≢false (sym h))
-
 past_two : (n : ℕ) → (n ≡ low → ⊥) → (n ≡ high → ⊥) → 2 ≤ n
 past_two n h k = omega arith
 
 module _ {K : Type 0} (rank : K → K → Ordering) where
-  nothing_before_bottom : (x : Bound K) → before rank x bottom ≡ false
-  nothing_before_bottom bottom = refl
-  nothing_before_bottom (exact k) = refl
-  nothing_before_bottom top = refl
-
   low_is_bottom : (x : Bound K) (k : K) → low_for rank FirstWork x k ≡ true → x ≡ bottom
   low_is_bottom bottom k h = refl
   low_is_bottom (exact j) k h = absurd (true≢false (sym h))
@@ -256,13 +232,13 @@ module _ {K : Type 0} (rank : K → K → Ordering) (laws : Laws rank) (i : ℕ)
   ends_true a open_end (Way.valid_take x0 x1 x2 x3 x4 x5) e = ends_not rank x4 refl e
   ends_true a open_end (Way.valid_strike_no x0 x1 x2 x3 x4 x5) e = tells b here Strike x1 x4 e (strike_no x0 x2 x3)
   ends_true a open_end (Way.valid_victim x0 x1 x2 x3 x4 x5) e = ends_not rank x4 refl e
-  ends_true a open_end (Way.take_none x0 x1 x2 x3) e = tells b here Put (fit_4 t.work (fit_in Take x0)) x2 e tt
+  ends_true a open_end (Way.take_none x0 x1 x2 x3) e = tells b here Put (fits_put t.work (fit_in Take x0)) x2 e tt
   ends_true a open_end (Way.take_some x0 x1 x2 x3 x4 x5 x6) e = ends_not rank x5 refl e
   ends_true a open_end (Way.links x0 x1 x2) e = ends_not rank x1 refl e
   ends_true a open_end (Way.links_back x0 x1 x2 x3) e = ends_not rank x2 refl e
   ends_true a open_end (Way.attaches x0 x1 x2 x3 x4 x5) e = ends_not rank x4 refl e
   ends_true a open_end (Way.releases_new x0 x1 x2) e = ends_not rank x1 refl e
-  ends_true a open_end (Way.put_ends x0 x1 x2) e = absurd (open_end (ap is_change (fit_4 t.work (fit_in PutEnd x0)), (cc)))
+  ends_true a open_end (Way.put_ends x0 x1 x2) e = absurd (open_end (ap is_change (fits_put t.work (fit_in PutEnd x0)), (cc)))
   ends_true a open_end (Way.victim_waits x0 x1 x2 x3) e = ends_not rank x2 refl e
   ends_true a open_end (Way.victim_taken x0 x1 x2 x3 x4) e = ends_not rank x3 refl e
   ends_true a open_end (Way.marks x0 x1 x2) e = ends_not rank x1 refl e
@@ -271,10 +247,10 @@ module _ {K : Type 0} (rank : K → K → Ordering) (laws : Laws rank) (i : ℕ)
   ends_true a open_end (Way.detaches x0 x1 x2 x3 x4) e = ends_not rank x3 refl e
   ends_true a open_end (Way.releases_victim x0 x1 x2) e = ends_not rank x1 refl e
   ends_true a open_end (Way.strike_ends x0 x1 x2 x3) e = ends_not rank x2 refl e
-  ends_true a open_end (Way.first_missing x0 x1 x2 x3) e = tells b here FirstWork (fit_2 t.work (fit_in First x0)) x2 e (none_at_all rank laws b now (shows b here) x1)
+  ends_true a open_end (Way.first_missing x0 x1 x2 x3) e = tells b here FirstWork (fits_first t.work (fit_in First x0)) x2 e (none_at_all rank laws b now (shows b here) x1)
   ends_true a open_end (Way.first_on_next x0 x1 x2 x3) e = ends_not rank x2 refl e
   ends_true a open_end (Way.first_marked x0 x1 x2 x3) e = ends_not rank x2 refl e
-  ends_true a open_end (Way.first_found x0 x1 x2 x3 x4 x5) e = let w = first_found x2 x3 x1 (known_as FirstNext FirstWork x0 (fit_2 t.work (fit_in FirstNext x0))) in tells w.0 w.1 FirstWork (fit_2 t.work (fit_in FirstNext x0)) x4 e w.2
+  ends_true a open_end (Way.first_found x0 x1 x2 x3 x4 x5) e = let w = first_found x2 x3 x1 (known_as FirstNext FirstWork x0 (fits_first t.work (fit_in FirstNext x0))) in tells w.0 w.1 FirstWork (fits_first t.work (fit_in FirstNext x0)) x4 e w.2
 
 module _ {K : Type 0} (rank : K → K → Ordering) (laws : Laws rank) (inv : (b : Book K) → Run rank b → Inv rank (sight_of b))
     (prevs : (b : Book K) → Run rank b → (p : ℕ) → chained (sight_of b) p ≡ true → (p ≡ low → ⊥) → chained (sight_of b) ((sight_of b).prev p) ≡ true)
@@ -291,7 +267,7 @@ module _ {K : Type 0} (rank : K → K → Ordering) (laws : Laws rank) (inv : (b
         (let same : x ≡ a = cc in oc ∙ ap Ends same)
     settled_true (Settling.retires q oc ac w others se) =
         let phase = retires_in rank (way_touches way) q oc in
-        absurd (open_end (ap is_change (fit_5 t.work (ap (λ g. fits t.work (group g)) (sym phase) ∙ (inv b r).fit i t is)), (cc)))
+        absurd (open_end (ap is_change (fits_strike t.work (ap (λ g. fits t.work (group g)) (sym phase) ∙ (inv b r).fit i t is)), (cc)))
 
   pub answers_are_true : AnswersAreTrue rank
   answers_are_true b r i t a n b' ended open_end =

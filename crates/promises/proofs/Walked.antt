@@ -1,8 +1,9 @@
 -- Where a look, an after or a first has come from: the place it stands on was on the chain at a moment of its work, and it
 -- came there by a link of such a moment. Assumes the invariant at the moments of the work, hindsight for it, and that the
 -- predecessor of a place of the chain is on the chain.
-use Rattle.std.proofs.Common.{◌≡◌, ℕ, Bool, true, false, not, ◌&&◌, ◌||◌, ◌⊎◌, List, ◌∷◌, Ordering, Less, Equal, Greater, sym, refl, ap, ◌∙◌, subst, inl, inr, arith}
+use Rattle.std.proofs.Common.{◌≡◌, ℕ, Bool, true, false, not, ◌&&◌, ◌||◌, ◌⊎◌, List, ◌∷◌, Ordering, Less, Equal, sym, refl, ap, ◌∙◌, subst, inl, inr}
 use Rattle.std.proofs.lemmas.Bool.{true≢false, not_from_false}
+use Rattle.std.proofs.Math.Bool.{or-false}
 use Rattle.guides.specs.Meaning.{low, high}
 use Rattle.records.specs.declared.outcome.Outcome.{Outcome}
 use Rattle.records.specs.declared.outcome.Outcome.TheVariants.{Goes, Waits, Ends, Retires}
@@ -14,6 +15,7 @@ use Rattle.records.specs.declared.record.Work.TheVariants.{Put, Strike, Look, Fi
 use Rattle.records.specs.Records.{first_phase}
 use Rattle.promises.specs.Books.{Book}
 use Rattle.promises.specs.Promised.{is_chained}
+use Rattle.promises.proofs.Small.{equal_not_less, greater_not_less, up_not_less}
 use Rattle.promises.proofs.Laws.{Laws, Bound, bottom, exact, top, before, compared, before_once, before_not_self, less_is_before, equal_is_exact}
 use Rattle.promises.proofs.Sights.{Sight, sight_of}
 use Rattle.promises.proofs.Views.{Way}
@@ -167,11 +169,7 @@ module _ {K : Type 0} (rank : K → K → Ordering) (laws : Laws rank) (i : ℕ)
 
   -- A place that a work sees and that is not marked is on the chain.
   pub seen_unmarked : (p : ℕ) → seen_by (sight_of b) i p ≡ true → (sight_of b).marked p ≡ false → chained (sight_of b) p ≡ true
-  seen_unmarked p seen unmarked = go (chained (sight_of b) p) (ap (λ m. chained (sight_of b) p || (m && waits_for i ((sight_of b).status p))) (sym unmarked) ∙ seen)
-    where
-      go : (c : Bool) → (c || false) ≡ true → c ≡ true
-      go true h = refl
-      go false h = h
+  seen_unmarked p seen unmarked = sym (or-false (chained (sight_of b) p)) ∙ (ap (λ m. chained (sight_of b) p || (m && waits_for i ((sight_of b).status p))) (sym unmarked) ∙ seen)
 
   low_known : (work : Work) (k : K) (p : ℕ) → Known bs p → low_for rank work ((sight_of b).spot p) k ≡ true → LowKnown rank bs work k p
   low_known work k p m h =
@@ -199,16 +197,6 @@ module _ {K : Type 0} (rank : K → K → Ordering) (laws : Laws rank) (i : ℕ)
 
   not_less_not_low : (k : K) (p : ℕ) → (compared rank ((sight_of b).spot p) k ≡ Less → ⊥) → p ≡ low → ⊥
   not_less_not_low k p h e = h (ap (λ q. compared rank ((sight_of b).spot q) k) e ∙ ap (λ x. compared rank x k) (inv_of b here).low_spot)
-
-  equal_not_less : {o : Ordering} → o ≡ Equal → o ≡ Less → ⊥
-  equal_not_less e h = let z : ◌≡◌ {A = ℕ} 0 1 = cc in omega arith
-
-  greater_not_less : {o : Ordering} → o ≡ Greater → o ≡ Less → ⊥
-  greater_not_less e h = let z : ◌≡◌ {A = ℕ} 0 1 = cc in omega arith
-
-  up_not_less : {o : Ordering} → (o ≡ Equal) ⊎ (o ≡ Greater) → o ≡ Less → ⊥
-  up_not_less (inl e) h = equal_not_less e h
-  up_not_less (inr e) h = greater_not_less e h
 
   not_above : (x : Bound K) (k : K) → (compared rank x k ≡ Less) ⊎ (compared rank x k ≡ Equal) → not (before rank (exact k) x) ≡ true
   not_above x k (inl e) = not_from_false (before rank (exact k) x) (before_once rank laws x (exact k) (less_is_before rank laws x k e))

@@ -7,6 +7,7 @@ use Rattle.records.specs.declared.record.Status.TheVariants.{Retired}
 use Rattle.records.specs.declared.record.Task.{Task}
 use Rattle.records.specs.declared.record.Work.{Work}
 use Rattle.records.specs.declared.record.Work.TheVariants.{Put, Strike}
+use Rattle.promises.proofs.Small.{up_not_less}
 use Rattle.promises.proofs.Laws.{Laws, exact, before}
 use Rattle.records.specs.declared.answer.Answer.{Answer}
 use Rattle.records.specs.declared.outcome.Outcome.{Outcome}
@@ -135,16 +136,12 @@ module _ {K : Type 0} (rank : K → K → Ordering) (laws : Laws rank) (s : Sigh
     not_low ord st other e =
         other (sym st ∙ ap (λ p. compared rank (s.spot p) t.key) e ∙ ap (λ b. compared rank b t.key) inv.low_spot)
 
-    less_differs : (x : Ordering) → (x ≡ Equal) ⊎ (x ≡ Greater) → x ≡ Less → ⊥
-    less_differs x (inl e) l = let z : ◌≡◌ {A = ℕ} 0 1 = cc in omega arith
-    less_differs x (inr e) l = let z : ◌≡◌ {A = ℕ} 0 1 = cc in omega arith
-
     greater_differs : (x : Ordering) → (x ≡ Less) ⊎ (x ≡ Equal) → x ≡ Greater → ⊥
     greater_differs x (inl e) l = let z : ◌≡◌ {A = ℕ} 0 1 = cc in omega arith
     greater_differs x (inr e) l = let z : ◌≡◌ {A = ℕ} 0 1 = cc in omega arith
 
     back_seen : (compared rank (s.spot t.at) t.key ≡ Equal) ⊎ (compared rank (s.spot t.at) t.key ≡ Greater) → seen_by s me (s.prev t.at) ≡ true
-    back_seen st = prev_is_seen rank laws s inv me t.at at_seen (not_low _ refl (less_differs _ st))
+    back_seen st = prev_is_seen rank laws s inv me t.at at_seen (not_low _ refl (up_not_less st))
 
     on_seen : (compared rank (s.spot t.at) t.key ≡ Less) ⊎ (compared rank (s.spot t.at) t.key ≡ Equal) → seen_by s me (s.next t.at) ≡ true
     on_seen st = next_is_seen rank s inv me t.at at_seen (not_high _ refl (greater_differs _ st))

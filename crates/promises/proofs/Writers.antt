@@ -18,23 +18,18 @@ use Rattle.guides.specs.Rules.{attaching, detaching}
 use Rattle.std.proofs.lemmas.List.{length-set}
 use Rattle.records.specs.declared.answer.Damage.TheVariants.{Guide}
 use Rattle.records.specs.declared.record.Status.{Status}
-use Rattle.records.specs.declared.record.Status.TheVariants.{Free, InHand, Chained, Retired}
+use Rattle.records.specs.declared.record.Status.TheVariants.{Free, InHand, Chained}
 use Rattle.records.specs.Records.{Ruled, place, needing, standing_at, written, with_next, with_prev, with_mark, with_lock, with_status, released, into, with_other, held_by_other}
 use Rattle.rules.specs.Holding.{lock_by, valid_by, lock, valid}
 use Rattle.rules.specs.Putting.{is_free, MayTake, take_by, take, link, link_back, release_new, put_end}
 use Rattle.rules.specs.Striking.{take_victim_by, take_victim, mark, unlink_back, unlink, release_victim, strike_end}
 use Rattle.rules.specs.Stepping.{attach, detach, as_damage}
+use Rattle.promises.proofs.Small.{only_free}
 use Rattle.promises.proofs.Laws.{compared}
 use Rattle.promises.proofs.Sights.{Sight, sight, next_put, prev_put, lock_put, status_put, guide_put, filled}
 use Rattle.promises.proofs.Writes.{sees_next, sees_prev, sees_mark, sees_lock, sees_status, sees_filled}
 use Rattle.promises.proofs.Finds.{needed, never_ok, same_ok, stands_seen, next_seen, marked_seen, lock_seen, status_seen}
 use Rattle.promises.proofs.Views.{Changes, puts, strikes, Strays, look_valid, first_valid, after_valid, stands, Way}
-
-only_free : (x : Status) → is_free x ≡ true → x ≡ Free
-only_free Free h = refl
-only_free InHand h = cc
-only_free Chained h = cc
-only_free (Retired waits) h = cc
 
 free_is_free : (x : Status) → x ≡ Free → is_free x ≡ true
 free_is_free x h = ap is_free h

@@ -5,10 +5,11 @@ ghost use Rattle.records.specs.declared.answer.Refusal.TheVariants.{Damaged, Gui
 ghost use Rattle.records.specs.Labels.{refusal_label, answer_label, stepped_word};
 
 use guides::GuideRefusal;
+use std::error::Error;
 use std::fmt;
 
 // The answer that ends a work.
-#[derive(Clone, Copy, PartialEq, Debug)]
+#[derive(Clone, Copy, PartialEq, Eq, Debug)]
 pub enum Answer<K> {
     Yes,
     No,
@@ -21,7 +22,7 @@ pub enum Answer<K> {
 }
 
 // What one step did.
-#[derive(Clone, Copy, PartialEq, Debug)]
+#[derive(Clone, Copy, PartialEq, Eq, Debug)]
 pub enum Stepped<K> {
     Moved,
     // Another station holds the lock that the step wants.
@@ -31,7 +32,7 @@ pub enum Stepped<K> {
 }
 
 // What a step found damaged.
-#[derive(Clone, Copy, PartialEq, Debug)]
+#[derive(Clone, Copy, PartialEq, Eq, Debug)]
 pub enum Damage {
     // The step needs a place number that is not among the places.
     NoPlace,
@@ -42,7 +43,7 @@ pub enum Damage {
 }
 
 // Why a call was refused. A refused call alters nothing.
-#[derive(Clone, Copy, PartialEq, Debug)]
+#[derive(Clone, Copy, PartialEq, Eq, Debug)]
 pub enum Refusal {
     BadCount,
     // The guide's own refusal.
@@ -55,7 +56,8 @@ pub enum Refusal {
     Damaged(Damage),
 }
 
-// A guide's refusal is damage to the step that meets it.
+// A guide's refusal is damage to the step that meets it. This conversion and the two below are written out, since a
+// derived one says in no contract what it gives.
 impl From<GuideRefusal> for Damage {
     ghost from_gives = { λ refusal r. r ≡ GuideDamage refusal };
 
@@ -152,6 +154,7 @@ impl Refusal {
     }
 }
 
+// Written out, since a derived text stands in no contract.
 impl fmt::Display for Refusal {
     ghost output = { λ refusal. Some (refusal_label refusal).name };
 
@@ -159,3 +162,5 @@ impl fmt::Display for Refusal {
         f.write_str(self.name())
     }
 }
+
+impl Error for Refusal {}

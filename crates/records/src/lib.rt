@@ -7,4 +7,4 @@ mod record;
 
 pub use answer::{Answer, Damage, Refusal, Stepped};
 pub use outcome::{Outcome, first_phase, go_on, go_to, start_over};
-pub use record::{Phase, Place, Station, Status, Task, Work};
+pub use record::{MOST_STATIONS, Phase, Place, Station, Status, Task, Work};

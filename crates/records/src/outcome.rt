@@ -8,7 +8,7 @@ use crate::record::{Phase, Task, Work};
 use guides::Number;
 use orders::Order;
 
-#[derive(Clone, Copy)]
+#[derive(Clone, Copy, PartialEq, Eq, Debug)]
 pub enum Outcome<K> {
     // The work goes on, with this task.
     Goes(Task<K>),

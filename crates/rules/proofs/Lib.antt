@@ -1,3 +1,2 @@
 mod Answerable
-mod Downs
 mod Turning

@@ -26,34 +26,36 @@ module _ {K G : Type 0} (meaning : G → Meaning) (rank : K → K → Ordering) 
   read_turns (Ok outcome) = (refl, refl, refl)
   read_turns (Err damage) = (refl, refl, refl)
 
-  pub follows_reading : (phase : Phase) (choice : Choice) (told r : Result (Outcome K) Damage) → t.phase ≡ phase
-      → MayChoose rank me ps (meaning g) t phase choice → rule_of rank me ps (meaning g) t phase choice ≡ reads ps (meaning g) told
-      → r ≡ told → FollowsRule meaning rank me t ps g r ps g
-  follows_reading phase choice told r is may rule read =
-      by_phase phase choice r ps g is may
-      (subst (λ x. Turns meaning x ps g r ps g) (sym rule) (subst (λ x. Turns meaning (reads ps (meaning g) told) ps g x ps g) (sym read) (read_turns told)))
-      (λ _. refl)
-
   write_turns : (told : Result (Ruled K) Damage) (r : Result (Outcome K) Damage) (ps' : List (Place K)) → Rules told ps r ps'
       → Turns meaning (writes ps (meaning g) told) ps g r ps' g
   write_turns (Ok ruled) r ps' did = (did.0, did.1, refl)
   write_turns (Err damage) r ps' did = (did.0, did.1, refl)
-
-  pub follows_writing : (phase : Phase) (choice : Choice) (told : Result (Ruled K) Damage) (r : Result (Outcome K) Damage) (ps' : List (Place K))
-      → t.phase ≡ phase → MayChoose rank me ps (meaning g) t phase choice
-      → rule_of rank me ps (meaning g) t phase choice ≡ writes ps (meaning g) told → Rules told ps r ps' → FollowsRule meaning rank me t ps g r ps' g
-  follows_writing phase choice told r ps' is may rule did =
-      by_phase phase choice r ps' g is may (subst (λ x. Turns meaning x ps g r ps' g) (sym rule) (write_turns told r ps' did)) (λ _. refl)
 
   guide_turns : (outcome : Outcome K) (told : Result Meaning Damage) (r : Result (Outcome K) Damage) (g' : G) → Guides meaning outcome told g r g'
       → Turns meaning (guides ps (meaning g) outcome told) ps g r ps g'
   guide_turns outcome (Ok m) r g' did = (did.0, refl, did.1)
   guide_turns outcome (Err damage) r g' did = (did.0, refl, did.1)
 
-  pub follows_guiding : (phase : Phase) (choice : Choice) (outcome : Outcome K) (told : Result Meaning Damage) (r : Result (Outcome K) Damage) (g' : G)
+-- The arguments that the goal tells are left out.
+module _ {K G : Type 0} {meaning : G → Meaning} {rank : K → K → Ordering} {me : ℕ} {t : Task K} {ps : List (Place K)} {g : G} where
+  pub follows_reading : (phase : Phase) (choice : Choice) (told : Result (Outcome K) Damage) {r : Result (Outcome K) Damage} → t.phase ≡ phase
+      → MayChoose rank me ps (meaning g) t phase choice → rule_of rank me ps (meaning g) t phase choice ≡ reads ps (meaning g) told
+      → r ≡ told → FollowsRule meaning rank me t ps g r ps g
+  follows_reading phase choice told {r} is may rule read =
+      by_phase meaning rank me t ps g phase choice r ps g is may
+      (subst (λ x. Turns meaning x ps g r ps g) (sym rule) (subst (λ x. Turns meaning (reads ps (meaning g) told) ps g x ps g) (sym read) (read_turns meaning rank me t ps g told)))
+      (λ _. refl)
+
+  pub follows_writing : (phase : Phase) (choice : Choice) (told : Result (Ruled K) Damage) {r : Result (Outcome K) Damage} {ps' : List (Place K)}
+      → t.phase ≡ phase → MayChoose rank me ps (meaning g) t phase choice
+      → rule_of rank me ps (meaning g) t phase choice ≡ writes ps (meaning g) told → Rules told ps r ps' → FollowsRule meaning rank me t ps g r ps' g
+  follows_writing phase choice told {r} {ps'} is may rule did =
+      by_phase meaning rank me t ps g phase choice r ps' g is may (subst (λ x. Turns meaning x ps g r ps' g) (sym rule) (write_turns meaning rank me t ps g told r ps' did)) (λ _. refl)
+
+  pub follows_guiding : (phase : Phase) (choice : Choice) (outcome : Outcome K) (told : Result Meaning Damage) {r : Result (Outcome K) Damage} {g' : G}
       → t.phase ≡ phase → MayChoose rank me ps (meaning g) t phase choice → changes_guide phase ≡ true
       → rule_of rank me ps (meaning g) t phase choice ≡ guides ps (meaning g) outcome told → Guides meaning outcome told g r g'
       → FollowsRule meaning rank me t ps g r ps g'
-  follows_guiding phase choice outcome told r g' is may changes rule did =
-      by_phase phase choice r ps g' is may (subst (λ x. Turns meaning x ps g r ps g') (sym rule) (guide_turns outcome told r g' did))
+  follows_guiding phase choice outcome told {r} {g'} is may changes rule did =
+      by_phase meaning rank me t ps g phase choice r ps g' is may (subst (λ x. Turns meaning x ps g r ps g') (sym rule) (guide_turns meaning rank me t ps g outcome told r g' did))
       (λ no. let z : ◌≡◌ {A = Bool} true false = cc in let w : ◌≡◌ {A = ℕ} 0 1 = cc in absurd (omega arith))

@@ -5,6 +5,7 @@ ghost use Rattle.records.specs.Records.{standing as standing_of};
 ghost use Rattle.rules.specs.Finding.{enter as enter_rule, lead as lead_rule, down as down_rule, MayStand};
 ghost use Rattle.rules.specs.Finding.{check as check_rule, back_look as back_look_rule, back_after as back_after_rule, back_change as back_change_rule, seek as seek_rule};
 
+use crate::places::place_at;
 use guides::{Beside, Guide, HIGH, LOW, Number, Side};
 use orders::Order;
 use records::{Answer, Damage, Outcome, Phase, Place, Task, go_on, go_to};
@@ -68,11 +69,8 @@ pub fn down<K: Order, G: Guide>(
 ) -> Result<Outcome<K>, Damage>
     ensures { (beside : Besides) × MayStand K.Order.rank places.now task (G.Guide.meaning guide.now).sequence beside × (result ≡ down_rule K.Order.rank places.now task beside) }
 {
-    let i = task.at as usize;
-    if i >= places.len() {
-        return Err(Damage::NoPlace);
-    }
-    match standing(task.at, places[i].key, task.key) {
+    let Place { key, .. } = place_at(places, task.at)?;
+    match standing(task.at, key, task.key) {
         Ordering::Less => Ok(lead(guide.beside(task.at, Side::Higher), task)),
         Ordering::Equal => Ok(go_on(Phase::Check, task)),
         Ordering::Greater => Ok(lead(guide.beside(task.at, Side::Lower), task)),
@@ -83,11 +81,8 @@ pub fn down<K: Order, G: Guide>(
 pub fn check<K: Order>(places: &[Place<K>], task: Task<K>) -> Result<Outcome<K>, Damage>
     ensures { result ≡ check_rule places.now task }
 {
-    let i = task.at as usize;
-    if i >= places.len() {
-        return Err(Damage::NoPlace);
-    }
-    let at = if places[i].marked { LOW } else { task.at };
+    let Place { marked, .. } = place_at(places, task.at)?;
+    let at = if marked { LOW } else { task.at };
     Ok(Outcome::Goes(Task {
         phase: Phase::Back,
         at,
@@ -100,16 +95,12 @@ pub fn check<K: Order>(places: &[Place<K>], task: Task<K>) -> Result<Outcome<K>,
 pub fn back_look<K: Order>(places: &[Place<K>], task: Task<K>) -> Result<Outcome<K>, Damage>
     ensures { result ≡ back_look_rule K.Order.rank places.now task }
 {
-    let i = task.at as usize;
-    if i >= places.len() {
-        return Err(Damage::NoPlace);
-    }
     let Place {
         key,
         prev,
         marked,
         ..
-    } = places[i];
+    } = place_at(places, task.at)?;
     match standing(task.at, key, task.key) {
         Ordering::Equal if !marked => Ok(Outcome::Ends(Answer::Yes)),
         Ordering::Equal | Ordering::Greater => Ok(go_to(prev, task)),
@@ -121,11 +112,7 @@ pub fn back_look<K: Order>(places: &[Place<K>], task: Task<K>) -> Result<Outcome
 pub fn back_after<K: Order>(places: &[Place<K>], task: Task<K>) -> Result<Outcome<K>, Damage>
     ensures { result ≡ back_after_rule K.Order.rank places.now task }
 {
-    let i = task.at as usize;
-    if i >= places.len() {
-        return Err(Damage::NoPlace);
-    }
-    let Place { key, prev, .. } = places[i];
+    let Place { key, prev, .. } = place_at(places, task.at)?;
     match standing(task.at, key, task.key) {
         Ordering::Greater => Ok(go_to(prev, task)),
         Ordering::Less | Ordering::Equal => Ok(go_on(Phase::On, task)),
@@ -136,11 +123,7 @@ pub fn back_after<K: Order>(places: &[Place<K>], task: Task<K>) -> Result<Outcom
 pub fn back_change<K: Order>(places: &[Place<K>], task: Task<K>) -> Result<Outcome<K>, Damage>
     ensures { result ≡ back_change_rule K.Order.rank places.now task }
 {
-    let i = task.at as usize;
-    if i >= places.len() {
-        return Err(Damage::NoPlace);
-    }
-    let Place { key, prev, .. } = places[i];
+    let Place { key, prev, .. } = place_at(places, task.at)?;
     match standing(task.at, key, task.key) {
         Ordering::Equal | Ordering::Greater => Ok(go_to(prev, task)),
         Ordering::Less => Ok(go_on(Phase::Seek, task)),
@@ -151,16 +134,9 @@ pub fn back_change<K: Order>(places: &[Place<K>], task: Task<K>) -> Result<Outco
 pub fn seek<K: Order>(places: &[Place<K>], task: Task<K>) -> Result<Outcome<K>, Damage>
     ensures { result ≡ seek_rule K.Order.rank places.now task }
 {
-    let i = task.at as usize;
-    if i >= places.len() {
-        return Err(Damage::NoPlace);
-    }
-    let next = places[i].next;
-    let j = next as usize;
-    if j >= places.len() {
-        return Err(Damage::NoPlace);
-    }
-    match standing(next, places[j].key, task.key) {
+    let Place { next, .. } = place_at(places, task.at)?;
+    let Place { key, .. } = place_at(places, next)?;
+    match standing(next, key, task.key) {
         Ordering::Less => Ok(go_to(next, task)),
         Ordering::Equal | Ordering::Greater => Ok(go_on(Phase::Lock, task)),
     }

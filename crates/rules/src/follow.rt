@@ -1,5 +1,7 @@
 // Which rule of the step list applies.
-ghost use Rattle.rules.specs.Stepping.{FollowsRule};
+ghost use Rattle.std.specs.Prelude.{◌≡◌, ℕ};
+ghost use Rattle.guides.specs.Meaning.{Meaning};
+ghost use Rattle.rules.specs.Stepping.{FollowsRule, back as back_rule, on as on_rule};
 
 use crate::find::{back_after, back_change, back_look, check, down, enter, seek};
 use crate::hang::{attach, detach};
@@ -11,7 +13,31 @@ use guides::Guide;
 use orders::Order;
 use records::{Damage, Outcome, Phase, Place, Task, Work, start_over};
 
-// Which rule applies: by phase, and where it matters by work.
+// BACK, by work.
+fn back<K: Order>(places: &[Place<K>], task: Task<K>) -> Result<Outcome<K>, Damage>
+    ensures { (me : ℕ) (m : Meaning) → result ≡ back_rule K.Order.rank me places.now m task task.work }
+{
+    match task.work {
+        Work::Put | Work::Strike => back_change(places, task),
+        Work::Look => back_look(places, task),
+        Work::First => Ok(start_over(task)),
+        Work::After => back_after(places, task),
+    }
+}
+
+// ON, by work.
+fn on<K: Order>(places: &[Place<K>], task: Task<K>) -> Result<Outcome<K>, Damage>
+    ensures { (me : ℕ) (m : Meaning) → result ≡ on_rule K.Order.rank me places.now m task task.work }
+{
+    match task.work {
+        Work::Put | Work::Strike | Work::First => Ok(start_over(task)),
+        Work::Look => on_look(places, task),
+        Work::After => on_after(places, task),
+    }
+}
+
+// Which rule applies, by phase: the step list itself. A phase is plain data, since a task lies in records that the
+// caller lends and keeps between the steps.
 pub fn follow_rule<K: Order, G: Guide>(
     places: &mut [Place<K>],
     guide: &mut G,
@@ -20,37 +46,29 @@ pub fn follow_rule<K: Order, G: Guide>(
 ) -> Result<Outcome<K>, Damage>
     ensures { FollowsRule G.Guide.meaning K.Order.rank me task places.old guide.old result places.new guide.new }
 {
-    match (task.phase, task.work) {
-        (Phase::Enter, _) => Ok(enter(guide.start(), task)),
-        (Phase::Down, _) => down(places, guide, task),
-        (Phase::Check, _) => check(places, task),
-        (Phase::Back, Work::Put) => back_change(places, task),
-        (Phase::Back, Work::Strike) => back_change(places, task),
-        (Phase::Back, Work::Look) => back_look(places, task),
-        (Phase::Back, Work::First) => Ok(start_over(task)),
-        (Phase::Back, Work::After) => back_after(places, task),
-        (Phase::On, Work::Put) => Ok(start_over(task)),
-        (Phase::On, Work::Strike) => Ok(start_over(task)),
-        (Phase::On, Work::Look) => on_look(places, task),
-        (Phase::On, Work::First) => Ok(start_over(task)),
-        (Phase::On, Work::After) => on_after(places, task),
-        (Phase::Seek, _) => seek(places, task),
-        (Phase::Lock, _) => lock(places, me, task),
-        (Phase::Valid, _) => valid(places, task),
-        (Phase::Take, _) => take(places, me, task),
-        (Phase::Link, _) => link(places, task),
-        (Phase::LinkBack, _) => link_back(places, task),
-        (Phase::Attach, _) => attach(places, guide, task),
-        (Phase::ReleaseNew, _) => release_new(places, task),
-        (Phase::PutEnd, _) => put_end(places, task),
-        (Phase::TakeVictim, _) => take_victim(places, me, task),
-        (Phase::Mark, _) => mark(places, task),
-        (Phase::UnlinkBack, _) => unlink_back(places, task),
-        (Phase::Unlink, _) => unlink(places, task),
-        (Phase::Detach, _) => detach(guide, task),
-        (Phase::ReleaseVictim, _) => release_victim(places, task),
-        (Phase::StrikeEnd, _) => strike_end(places, task),
-        (Phase::First, _) => first(places, task),
-        (Phase::FirstNext, _) => first_next(places, task),
+    match task.phase {
+        Phase::Enter => Ok(enter(guide.start(), task)),
+        Phase::Down => down(places, guide, task),
+        Phase::Check => check(places, task),
+        Phase::Back => back(places, task),
+        Phase::On => on(places, task),
+        Phase::Seek => seek(places, task),
+        Phase::Lock => lock(places, me, task),
+        Phase::Valid => valid(places, task),
+        Phase::Take => take(places, me, task),
+        Phase::Link => link(places, task),
+        Phase::LinkBack => link_back(places, task),
+        Phase::Attach => attach(places, guide, task),
+        Phase::ReleaseNew => release_new(places, task),
+        Phase::PutEnd => put_end(places, task),
+        Phase::TakeVictim => take_victim(places, me, task),
+        Phase::Mark => mark(places, task),
+        Phase::UnlinkBack => unlink_back(places, task),
+        Phase::Unlink => unlink(places, task),
+        Phase::Detach => detach(guide, task),
+        Phase::ReleaseVictim => release_victim(places, task),
+        Phase::StrikeEnd => strike_end(places, task),
+        Phase::First => first(places, task),
+        Phase::FirstNext => first_next(places, task),
     }
 }

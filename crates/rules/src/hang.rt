@@ -5,6 +5,7 @@ ghost use Rattle.records.specs.declared.record.Phase.TheVariants.{ReleaseNew, Re
 ghost use Rattle.records.specs.Records.{into};
 ghost use Rattle.rules.specs.Stepping.{attach as attach_rule, detach as detach_rule, Guides};
 
+use crate::places::place_at;
 use guides::Guide;
 use orders::Order;
 use records::{Damage, Outcome, Phase, Place, Task, go_on};
@@ -17,11 +18,8 @@ pub fn attach<K: Order, G: Guide>(
 ) -> Result<Outcome<K>, Damage>
     ensures { Guides G.Guide.meaning (Goes (into ReleaseNew task)) (attach_rule places.now task (G.Guide.meaning guide.old)) guide.old result guide.new }
 {
-    let new = task.other as usize;
-    if new >= places.len() {
-        return Err(Damage::NoPlace);
-    }
-    guide.attach(task.at, task.other, places[new].next)?;
+    let Place { next, .. } = place_at(places, task.other)?;
+    guide.attach(task.at, task.other, next)?;
     Ok(go_on(Phase::ReleaseNew, task))
 }
 

@@ -1,8 +1,9 @@
 // The rules by which a put adds its key: TAKE, LINK and what follows.
-ghost use Rattle.std.specs.Prelude.{◌≡◌, ℕ, Option as Maybe};
-ghost use Rattle.records.specs.Records.{Rules};
-ghost use Rattle.rules.specs.Putting.{MayTake, is_free as status_is_free, take as take_rule, link as link_rule, link_back as link_back_rule, release_new as release_new_rule, put_end as put_end_rule};
+ghost use Rattle.std.specs.Prelude.{◌≡◌, ℕ, ◌<◌, ◌&&◌, nat_lt, length, IfSome, Option as Maybe};
+ghost use Rattle.records.specs.Records.{Rules, place};
+ghost use Rattle.rules.specs.Putting.{MayTake, is_free as is_free_of, take as take_rule, link as link_rule, link_back as link_back_rule, release_new as release_new_rule, put_end as put_end_rule};
 
+use crate::places::{index_of, place_at, release, relink_back};
 use guides::Number;
 use orders::Order;
 use records::{Answer, Damage, Outcome, Phase, Place, Status, Task, go_on};
@@ -11,25 +12,26 @@ use records::{Answer, Damage, Outcome, Phase, Place, Status, Task, go_on};
 pub const MOST_PLACES: usize = 1024;
 
 fn is_free(status: Status) -> bool
-    ensures { result ≡ status_is_free status }
+    ensures { result ≡ is_free_of status }
 {
-    match status {
-        Status::Free => true,
-        Status::InHand | Status::Chained | Status::Retired(_) => false,
-    }
+    status == Status::Free
+}
+
+// The place is there and free.
+fn is_free_place<K: Order>(places: &[Place<K>], i: usize) -> bool
+    ensures { (k : K) → result ≡ (nat_lt i (length places.now) && is_free_of (place k places.now i).status) }
+{
+    places.get(i).is_some_and(|place| is_free(place.status))
 }
 
 // Some free place from 2 on, or none.
 fn free_place<K: Order>(places: &[Place<K>]) -> Option<Number>
-    ensures { (k : K) → MayTake places.now k result }
+    ensures takes { (k : K) → MayTake places.now k result }
+    ensures within { IfSome result (λ number. number < length places.now) }
 {
     let end = places.len().min(MOST_PLACES);
-    for i in 2..end {
-        if is_free(places[i].status) {
-            return Some(i as u16);
-        }
-    }
-    None
+    let free = (2..end).find(|i| is_free_place(places, *i))?;
+    Number::try_from(free).ok()
 }
 
 // TAKE takes some free place and fills in the key and both links, unmarked, locked by this station. With no place free
@@ -38,19 +40,16 @@ pub fn take<K: Order>(places: &mut [Place<K>], me: u8, task: Task<K>) -> Result<
     ensures { (free : Maybe ℕ) × MayTake places.old task.key free × Rules (take_rule places.old task me free) places.old result places.new }
 {
     let free = free_place(places);
-    let below = task.at as usize;
-    if below >= places.len() {
-        return Err(Damage::NoPlace);
-    }
+    let Place { next, .. } = place_at(places, task.at)?;
     match free {
         None => {
-            places[below].lock = None;
+            release(places, task.at)?;
             Ok(Outcome::Ends(Answer::NoRoom))
         }
         Some(other) => {
-            places[other as usize] = Place {
+            places[usize::from(other)] = Place {
                 key: task.key,
-                next: places[below].next,
+                next,
                 prev: task.at,
                 marked: false,
                 lock: Some(me),
@@ -69,11 +68,8 @@ pub fn take<K: Order>(places: &mut [Place<K>], me: u8, task: Task<K>) -> Result<
 pub fn link<K: Order>(places: &mut [Place<K>], task: Task<K>) -> Result<Outcome<K>, Damage>
     ensures { Rules (link_rule places.old task) places.old result places.new }
 {
-    let below = task.at as usize;
-    let new = task.other as usize;
-    if below >= places.len() || new >= places.len() {
-        return Err(Damage::NoPlace);
-    }
+    let below = index_of(places, task.at)?;
+    let new = index_of(places, task.other)?;
     places[below].next = task.other;
     places[new].status = Status::Chained;
     Ok(go_on(Phase::LinkBack, task))
@@ -83,27 +79,16 @@ pub fn link<K: Order>(places: &mut [Place<K>], task: Task<K>) -> Result<Outcome<
 pub fn link_back<K: Order>(places: &mut [Place<K>], task: Task<K>) -> Result<Outcome<K>, Damage>
     ensures { Rules (link_back_rule places.old task) places.old result places.new }
 {
-    let new = task.other as usize;
-    if new >= places.len() {
-        return Err(Damage::NoPlace);
-    }
-    let next = places[new].next as usize;
-    if next >= places.len() {
-        return Err(Damage::NoPlace);
-    }
-    places[next].prev = task.other;
+    relink_back(places, task.other, task.other)?;
     Ok(go_on(Phase::Attach, task))
 }
 
-// Release the new place.
+// Release the new place. A rule of its own beside `release_victim`, since each is named by its phase; both are
+// `release`.
 pub fn release_new<K: Order>(places: &mut [Place<K>], task: Task<K>) -> Result<Outcome<K>, Damage>
     ensures { Rules (release_new_rule places.old task) places.old result places.new }
 {
-    let new = task.other as usize;
-    if new >= places.len() {
-        return Err(Damage::NoPlace);
-    }
-    places[new].lock = None;
+    release(places, task.other)?;
     Ok(go_on(Phase::PutEnd, task))
 }
 
@@ -111,10 +96,6 @@ pub fn release_new<K: Order>(places: &mut [Place<K>], task: Task<K>) -> Result<O
 pub fn put_end<K: Order>(places: &mut [Place<K>], task: Task<K>) -> Result<Outcome<K>, Damage>
     ensures { Rules (put_end_rule places.old task) places.old result places.new }
 {
-    let below = task.at as usize;
-    if below >= places.len() {
-        return Err(Damage::NoPlace);
-    }
-    places[below].lock = None;
+    release(places, task.at)?;
     Ok(Outcome::Ends(Answer::Yes))
 }

@@ -3,7 +3,8 @@ ghost use Rattle.std.specs.Prelude.{◌≡◌};
 ghost use Rattle.rules.specs.Reading.{on_look as on_look_rule, on_after as on_after_rule, first as first_rule, first_next};
 
 use crate::find::standing;
-use guides::HIGH;
+use crate::places::place_at;
+use guides::{HIGH, LOW};
 use orders::Order;
 use records::{Answer, Damage, Outcome, Phase, Place, Task, go_on, go_to};
 use std::cmp::Ordering;
@@ -12,16 +13,12 @@ use std::cmp::Ordering;
 pub fn on_look<K: Order>(places: &[Place<K>], task: Task<K>) -> Result<Outcome<K>, Damage>
     ensures { result ≡ on_look_rule K.Order.rank places.now task }
 {
-    let i = task.at as usize;
-    if i >= places.len() {
-        return Err(Damage::NoPlace);
-    }
     let Place {
         key,
         next,
         marked,
         ..
-    } = places[i];
+    } = place_at(places, task.at)?;
     match standing(task.at, key, task.key) {
         Ordering::Less => Ok(go_to(next, task)),
         Ordering::Equal if !marked => Ok(Outcome::Ends(Answer::Yes)),
@@ -34,16 +31,12 @@ pub fn on_look<K: Order>(places: &[Place<K>], task: Task<K>) -> Result<Outcome<K
 pub fn on_after<K: Order>(places: &[Place<K>], task: Task<K>) -> Result<Outcome<K>, Damage>
     ensures { result ≡ on_after_rule K.Order.rank places.now task }
 {
-    let i = task.at as usize;
-    if i >= places.len() {
-        return Err(Damage::NoPlace);
-    }
     let Place {
         key,
         next,
         marked,
         ..
-    } = places[i];
+    } = place_at(places, task.at)?;
     match standing(task.at, key, task.key) {
         Ordering::Less | Ordering::Equal => Ok(go_to(next, task)),
         Ordering::Greater if task.at == HIGH => Ok(Outcome::Ends(Answer::Missing)),
@@ -56,10 +49,7 @@ pub fn on_after<K: Order>(places: &[Place<K>], task: Task<K>) -> Result<Outcome<
 pub fn first<K: Order>(places: &[Place<K>], task: Task<K>) -> Result<Outcome<K>, Damage>
     ensures { result ≡ first_rule places.now task }
 {
-    if places.is_empty() {
-        return Err(Damage::NoPlace);
-    }
-    let at = places[0].next;
+    let Place { next: at, .. } = place_at(places, LOW)?;
     if at == HIGH {
         return Ok(Outcome::Ends(Answer::Missing));
     }
@@ -74,11 +64,7 @@ pub fn first<K: Order>(places: &[Place<K>], task: Task<K>) -> Result<Outcome<K>,
 pub fn first_next<K: Order>(places: &[Place<K>], task: Task<K>) -> Result<Outcome<K>, Damage>
     ensures { result ≡ first_next places.now task }
 {
-    let i = task.at as usize;
-    if i >= places.len() {
-        return Err(Damage::NoPlace);
-    }
-    let Place { key, marked, .. } = places[i];
+    let Place { key, marked, .. } = place_at(places, task.at)?;
     if marked {
         return Ok(go_on(Phase::First, task));
     }

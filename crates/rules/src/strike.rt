@@ -4,6 +4,7 @@ ghost use Rattle.records.specs.Records.{Rules};
 ghost use Rattle.rules.specs.Striking.{take_victim as take_victim_rule, mark as mark_rule, unlink_back as unlink_back_rule, unlink as unlink_rule, release_victim as release_victim_rule, strike_end as strike_end_rule};
 
 use crate::hold::held_by_other;
+use crate::places::{index_of, place_at, release, relink_back};
 use orders::Order;
 use records::{Damage, Outcome, Phase, Place, Status, Task, go_on};
 
@@ -15,17 +16,9 @@ pub fn take_victim<K: Order>(
 ) -> Result<Outcome<K>, Damage>
     ensures { Rules (take_victim_rule places.old task me) places.old result places.new }
 {
-    let below = task.at as usize;
-    if below >= places.len() {
-        return Err(Damage::NoPlace);
-    }
-    let other = places[below].next;
-    let victim = other as usize;
-    if victim >= places.len() {
-        return Err(Damage::NoPlace);
-    }
-    let held = places[victim].lock;
-    if held_by_other(me, held) {
+    let Place { next: other, .. } = place_at(places, task.at)?;
+    let victim = index_of(places, other)?;
+    if held_by_other(me, places[victim].lock) {
         return Ok(Outcome::Waits);
     }
     places[victim].lock = Some(me);
@@ -40,10 +33,7 @@ pub fn take_victim<K: Order>(
 pub fn mark<K: Order>(places: &mut [Place<K>], task: Task<K>) -> Result<Outcome<K>, Damage>
     ensures { Rules (mark_rule places.old task) places.old result places.new }
 {
-    let victim = task.other as usize;
-    if victim >= places.len() {
-        return Err(Damage::NoPlace);
-    }
+    let victim = index_of(places, task.other)?;
     places[victim].marked = true;
     Ok(go_on(Phase::UnlinkBack, task))
 }
@@ -52,15 +42,7 @@ pub fn mark<K: Order>(places: &mut [Place<K>], task: Task<K>) -> Result<Outcome<
 pub fn unlink_back<K: Order>(places: &mut [Place<K>], task: Task<K>) -> Result<Outcome<K>, Damage>
     ensures { Rules (unlink_back_rule places.old task) places.old result places.new }
 {
-    let victim = task.other as usize;
-    if victim >= places.len() {
-        return Err(Damage::NoPlace);
-    }
-    let next = places[victim].next as usize;
-    if next >= places.len() {
-        return Err(Damage::NoPlace);
-    }
-    places[next].prev = task.at;
+    relink_back(places, task.other, task.at)?;
     Ok(go_on(Phase::Unlink, task))
 }
 
@@ -68,11 +50,8 @@ pub fn unlink_back<K: Order>(places: &mut [Place<K>], task: Task<K>) -> Result<O
 pub fn unlink<K: Order>(places: &mut [Place<K>], task: Task<K>) -> Result<Outcome<K>, Damage>
     ensures { Rules (unlink_rule places.old task) places.old result places.new }
 {
-    let below = task.at as usize;
-    let victim = task.other as usize;
-    if below >= places.len() || victim >= places.len() {
-        return Err(Damage::NoPlace);
-    }
+    let below = index_of(places, task.at)?;
+    let victim = index_of(places, task.other)?;
     places[below].next = places[victim].next;
     places[victim].status = Status::InHand;
     Ok(go_on(Phase::Detach, task))
@@ -85,11 +64,7 @@ pub fn release_victim<K: Order>(
 ) -> Result<Outcome<K>, Damage>
     ensures { Rules (release_victim_rule places.old task) places.old result places.new }
 {
-    let victim = task.other as usize;
-    if victim >= places.len() {
-        return Err(Damage::NoPlace);
-    }
-    places[victim].lock = None;
+    release(places, task.other)?;
     Ok(go_on(Phase::StrikeEnd, task))
 }
 
@@ -97,11 +72,9 @@ pub fn release_victim<K: Order>(
 pub fn strike_end<K: Order>(places: &mut [Place<K>], task: Task<K>) -> Result<Outcome<K>, Damage>
     ensures { Rules (strike_end_rule places.old task) places.old result places.new }
 {
-    let below = task.at as usize;
-    let victim = task.other as usize;
-    if below >= places.len() || victim >= places.len() {
-        return Err(Damage::NoPlace);
-    }
+    let below = index_of(places, task.at)?;
+    // The place that is retired has to be there, and is written once the rule is over.
+    index_of(places, task.other)?;
     places[below].lock = None;
     Ok(Outcome::Retires(task.other))
 }

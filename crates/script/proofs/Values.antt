@@ -1,34 +1,42 @@
--- The value of digits, found digit by digit. Assumes nothing.
-use Rattle.std.proofs.Common.{◌≡◌, ℕ, ◌+◌, ◌-◌, ◌*◌, ◌<◌, ◌≤◌, List, [], ◌∷◌, length, get_or, drop, Some, None, sym, ap, ◌∙◌, arith}
-use Rattle.std.proofs.lemmas.List.{at_drop_more, at_drop_all}
+-- The value of digits, found by a fold that stops where it does not fit. Assumes nothing.
+use Rattle.std.proofs.Common.{◌≡◌, ℕ, ◌+◌, ◌-◌, ◌*◌, ◌<◌, ◌≤◌, Bool, true, false, List, Some, None, Option, MatchBool, MatchOption, Bor, sym, refl, ap, ◌∙◌, subst, arith}
+use denote.Param.Members.{Mut, Called}
+use Rattle.std.specs.ControlFlow.{continue_value}
+use Rattle.std.specs.Iterator.Runs.{Run, ItemsMapTo, IsTryFoldRun, ActsAsWhileContinuing}
 use Rattle.std.proofs.lemmas.Bool.{cond-true, cond-false, le-leb, lt-leb}
 use Rattle.script.specs.Words.{value_after, number_value}
 
--- More digits make no smaller value.
-value_grows : (n : ℕ) (ds : List ℕ) → n ≤ value_after n ds
-value_grows n [] = omega arith
-value_grows n (d ∷ ds) = omega (arith, value_grows (n * 10 + (d - 48)) ds)
+-- The value n with one more digit.
+abbrev pub with_digit : ℕ → ℕ → ℕ
+with_digit n d = n * 10 + (d - 48)
 
--- The value n with the digit at i put behind it.
-abbrev pub with_digit : List ℕ → ℕ → ℕ → ℕ
-with_digit ds i n = n * 10 + (get_or ds i 0 - 48)
+number_fits : (digits : List ℕ) → value_after 0 digits ≤ 4294967295 → Some (value_after 0 digits) ≡ number_value digits
+number_fits digits h = sym (cond-true _ _ _ (le-leb _ _ h))
 
--- The first i digits have the value n.
-abbrev pub Read : List ℕ → ℕ → ℕ → Type 0
-Read ds i n = value_after n (drop i ds) ≡ value_after 0 ds
+number_too_large : (digits : List ℕ) → 4294967295 < value_after 0 digits → None ≡ number_value digits
+number_too_large digits h = sym (cond-false _ _ _ (lt-leb _ _ h))
 
-module _ (ds : List ℕ) (i n : ℕ) (read : Read ds i n) where
-  module _ (more : i < length ds) where
-    pub read_more : Read ds (i + 1) (with_digit ds i n)
-    read_more = sym (at_drop_more (value_after n) ds i 0 more) ∙ read
+by_cases : (A B C : Type 0) (b : Bool) → MatchBool b A B → (b ≡ true → A → C) → (B → C) → C
+by_cases A B C true h at_true at_false = at_true refl h
+by_cases A B C false h at_true at_false = at_false h
 
-    -- A value that is too large stays so.
-    pub read_too_large : 4294967295 < with_digit ds i n → None ≡ number_value ds
-    read_too_large large =
-        let grown : 4294967295 < value_after 0 ds = omega (arith, read_more, value_grows (with_digit ds i n) (drop (i + 1) ds)) in
-        sym (cond-false _ _ _ (lt-leb _ _ grown))
-
-  pub read_all : length ds ≤ i → n ≤ 4294967295 → Some n ≡ number_value ds
-  read_all end fits =
-      let whole : n ≡ value_after 0 ds = sym (at_drop_all (value_after n) ds i end) ∙ read in
-      ap Some whole ∙ sym (cond-true _ _ _ (le-leb (value_after 0 ds) 4294967295 (omega arith)))
+-- A run of `try_fold` over the digits, from 0, by a closure that puts one digit more behind the value.
+module _ {S F : Type 0} {steps : S → Option (Bor ℕ) → S → Type 0} (E : Type 0) (g : Mut F (ℕ × (Bor ℕ × Unit {0})) (Option ℕ)) (f : F) (p : Run steps) (r : Option ℕ) (digits : List ℕ) where
+  -- A call that goes on gives the value with the digit, and one that breaks off had no room for it.
+  pub value_by_try_fold : ItemsMapTo p (λ d. d.now) digits → IsTryFoldRun p g f (λ v k. v ≡ continue_value {B = E} k) (λ e v. v ≡ None) 0 r
+      → ((n : ℕ) (d : Bor ℕ) (v : Option ℕ) (f' : F) → Called g f (n, (d, tt)) v f' → (f' ≡ f) × MatchOption v (4294967295 < with_digit n d.now) (λ m. m ≡ with_digit n d.now))
+      → ((n : ℕ) → r ≡ Some n → n ≤ 4294967295) → r ≡ number_value digits
+  value_by_try_fold items run puts fits =
+      let acts : ActsAsWhileContinuing p g f (λ v k. v ≡ continue_value {B = E} k) (λ n d. with_digit n d.now) =
+      λ n d v m f' called goes. let put = puts n d v f' called in (put.0, subst (λ o. MatchOption o (4294967295 < with_digit n d.now) (λ m'. m' ≡ with_digit n d.now)) goes put.1) in
+      by_cases _ _ _ p.whole run
+      (λ whole h.
+      let total : h.0 ≡ value_after 0 digits = h.2 (λ n d. with_digit n d.now) acts ∙ items.5 (λ n d. with_digit n d) 0 whole in
+      h.1 ∙ ap Some total ∙ number_fits digits (omega (arith, fits h.0 h.1, total)))
+      (λ h.
+      let last = h.3 in
+      let rule = last.9 (λ n d. with_digit n d.now) acts in
+      let put = puts last.1 last.0 last.2 last.4 (subst (λ j. Called g j (last.1, (last.0, tt)) last.2 last.4) rule.1 last.7) in
+      let large = subst (λ o. MatchOption o (4294967295 < with_digit last.1 last.0.now) (λ m. m ≡ with_digit last.1 last.0.now)) last.8 put.1 in
+      let most = items.7 (λ n d. with_digit n d) 0 (λ n d. omega arith) in
+      h.1 ∙ number_too_large digits (omega (arith, large, rule.0, most)))

@@ -1,5 +1,6 @@
 -- How a script is cut into lines and words, and what a word is. Assumes nothing.
-use Rattle.std.specs.Prelude.{ℕ, ◌+◌, ◌-◌, ◌*◌, Bool, true, false, cond, ◌&&◌, List, [], ◌∷◌, Some, None, codes, Option, ◌==◌, nat_le}
+use Rattle.std.specs.Prelude.{ℕ, ◌+◌, ◌-◌, ◌*◌, Bool, true, false, cond, not, ◌&&◌, List, [], ◌∷◌, length, fold, Some, None, codes, Option, ◌==◌, nat_le}
+use Rattle.std.specs.List.{list_all}
 use Rattle.std.specs.Borrow.{Bor}
 use Rattle.std.specs.Str.{bytes_eq}
 use Rattle.script.specs.declared.word.Word.{Word}
@@ -32,15 +33,13 @@ or_whole line (Some (front, rest)) = (front, Some rest)
 abbrev pub piece_of : List ℕ → List ℕ × Option (List ℕ)
 piece_of line = or_whole line (cut_at 32 line)
 
--- Each byte lies from `low` to `high`.
-abbrev pub all_within : ℕ → ℕ → List ℕ → Bool
-all_within low high [] = true
-all_within low high (b ∷ bs) = (nat_le low b && nat_le b high) && all_within low high bs
+-- The byte lies from `low` to `high`.
+abbrev pub within : ℕ → ℕ → ℕ → Bool
+within low high b = nat_le low b && nat_le b high
 
 -- One or more bytes, each from `low` to `high`.
 abbrev pub made_of : ℕ → ℕ → List ℕ → Bool
-made_of low high [] = false
-made_of low high (b ∷ bs) = all_within low high (b ∷ bs)
+made_of low high bytes = not (length bytes == 0) && list_all (within low high) bytes
 
 -- A word, with its bytes.
 pub data Token : Type 0 where
@@ -76,8 +75,7 @@ is_dash (dash bytes) = true
 
 -- The decimal value of digits that follow digits of the value n. (`-` stops at 0, but no number has a byte below `0`.)
 abbrev pub value_after : ℕ → List ℕ → ℕ
-value_after n [] = n
-value_after n (d ∷ ds) = value_after (n * 10 + (d - 48)) ds
+value_after n digits = fold (λ m d. m * 10 + (d - 48)) n digits
 
 -- The decimal value of digits, however many zeros lead them; nothing if it is above 4,294,967,295.
 abbrev pub number_value : List ℕ → Option ℕ

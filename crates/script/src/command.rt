@@ -14,13 +14,13 @@ pub const MOST_BYTES: usize = 32_768;
 const NAMES: &[u8] = b"call station work key";
 
 // A guide, by its name.
-#[derive(Clone, Copy)]
+#[derive(Clone, Copy, PartialEq, Eq, Debug)]
 pub enum GuideName {
     Line,
 }
 
 // A call with its values.
-#[derive(Clone, Copy)]
+#[derive(Clone, Copy, PartialEq, Eq, Debug)]
 pub enum Command {
     // open S G P
     Open {
@@ -28,7 +28,7 @@ pub enum Command {
         guide: GuideName,
         places: u32,
     },
-    // begin S W K; the key is 0 for `first`, which ignores it
+    // begin S W K; the key is 0 for `first`, since begin is given a key with every work and first ignores it
     Begin {
         station: u32,
         work: Work,
@@ -45,7 +45,7 @@ pub enum Command {
 }
 
 // The four words of a line.
-#[derive(Clone, Copy)]
+#[derive(Clone, Copy, PartialEq, Eq, Debug)]
 pub struct Fields<'a> {
     pub call: Word<'a>,
     pub station: Word<'a>,
@@ -61,7 +61,7 @@ pub fn lines_of(text: &[u8]) -> Option<&[u8]>
         return None;
     }
     let (names, rest) = first_line(text)?;
-    if names == NAMES { Some(rest) } else { None }
+    (names == NAMES).then_some(rest)
 }
 
 // The first word of what is left of a line, and what is then left.
@@ -80,25 +80,21 @@ fn fields_of(line: &[u8]) -> Option<Fields<'_>>
     let (station, rest) = next_word(rest)?;
     let (work, rest) = next_word(rest)?;
     let (key, rest) = next_word(rest)?;
-    match rest {
-        None => Some(Fields {
-            call,
-            station,
-            work,
-            key,
-        }),
-        Some(_) => None,
-    }
+    rest.is_none().then_some(Fields {
+        call,
+        station,
+        work,
+        key,
+    })
 }
 
 // The guide that a word names.
 fn guide_of(word: Word<'_>) -> Option<GuideName>
     ensures { result ≡ guide_of_rule (token word.entry) }
 {
-    if word.is_name(b"line") {
-        Some(GuideName::Line)
-    } else {
-        None
+    match word {
+        Word::Name(b"line") => Some(GuideName::Line),
+        _ => None,
     }
 }
 
@@ -106,18 +102,13 @@ fn guide_of(word: Word<'_>) -> Option<GuideName>
 fn work_of(word: Word<'_>) -> Option<Work>
     ensures { result ≡ work_of_rule (token word.entry) }
 {
-    if word.is_name(b"put") {
-        Some(Work::Put)
-    } else if word.is_name(b"strike") {
-        Some(Work::Strike)
-    } else if word.is_name(b"look") {
-        Some(Work::Look)
-    } else if word.is_name(b"first") {
-        Some(Work::First)
-    } else if word.is_name(b"after") {
-        Some(Work::After)
-    } else {
-        None
+    match word {
+        Word::Name(b"put") => Some(Work::Put),
+        Word::Name(b"strike") => Some(Work::Strike),
+        Word::Name(b"look") => Some(Work::Look),
+        Word::Name(b"first") => Some(Work::First),
+        Word::Name(b"after") => Some(Work::After),
+        _ => None,
     }
 }
 
@@ -126,7 +117,7 @@ fn key_of(work: Work, word: Word<'_>) -> Option<u32>
     ensures { result ≡ key_of work (token word.entry) }
 {
     match work {
-        Work::First => if word.is_dash() { Some(0) } else { None },
+        Work::First => word.is_dash().then_some(0),
         Work::Put | Work::Strike | Work::Look | Work::After => word.value(),
     }
 }
@@ -170,24 +161,21 @@ fn only_station(line: Fields<'_>) -> Option<u32>
 fn call_of(line: Fields<'_>) -> Option<Command>
     ensures { result ≡ call_of_rule (tokens line.entry) }
 {
-    if line.call.is_name(b"open") {
-        opening(line)
-    } else if line.call.is_name(b"begin") {
-        beginning(line)
-    } else if line.call.is_name(b"run") {
-        Some(Command::Run {
+    match line.call {
+        Word::Name(b"open") => opening(line),
+        Word::Name(b"begin") => beginning(line),
+        Word::Name(b"run") => Some(Command::Run {
             station: only_station(line)?,
-        })
-    } else if line.call.is_name(b"leave") {
-        Some(Command::Leave {
+        }),
+        Word::Name(b"leave") => Some(Command::Leave {
             station: only_station(line)?,
-        })
-    } else {
-        None
+        }),
+        _ => None,
     }
 }
 
 // What a line says; nothing for a bad line.
+#[tactic(auto, unfolding(crate::specs::Commands::command_of))]
 pub fn read(line: &[u8]) -> Option<Command>
     ensures { result ≡ command_of line.now }
 {

@@ -5,10 +5,11 @@ ghost use Rattle.script.specs.Entries.{heading, line_refusal_label, said_word, s
 use orders::Ingredient;
 use records::{Answer, Refusal, Stepped};
 use std::alloc::{AllocError, Global};
+use std::error::Error;
 use std::fmt;
 
 // Why a line was refused.
-#[derive(Clone, Copy)]
+#[derive(Clone, Copy, PartialEq, Eq, Debug)]
 pub enum LineRefusal {
     // It has no form that the script's rules allow.
     BadLine,
@@ -17,26 +18,28 @@ pub enum LineRefusal {
 }
 
 // What a line came to.
-#[derive(Clone, Copy)]
+#[derive(Clone, Copy, PartialEq, Eq, Debug)]
 pub enum Said {
     Opened,
     Begun,
     // A station took a step.
     Ran(Stepped<Ingredient>),
     Left,
+    // An answer like the others: each line of a script prints one, and none of them ends it.
     Refused(LineRefusal),
 }
 
 // A printed line.
-#[derive(Clone, Copy)]
+#[derive(Clone, Copy, PartialEq, Eq, Debug)]
 pub struct Entry {
     // The number of the script's line, from 1 after the names; 0 where the whole script is refused.
+    // No Option: the printed column is a number in each line.
     pub line: u32,
     pub said: Said,
 }
 
 // A number, or none.
-#[derive(Clone, Copy)]
+#[derive(Clone, Copy, PartialEq, Eq, Debug)]
 struct Column(Option<u64>);
 
 // The first printed line.
@@ -46,6 +49,7 @@ pub fn heading() -> &'static str
     "line answer key steps"
 }
 
+// Two matches, as in records and guides: the definition lists number and name together, and a call gives one.
 impl LineRefusal {
     // The refusal's number.
     pub fn number(self) -> u8
@@ -67,6 +71,17 @@ impl LineRefusal {
         }
     }
 }
+
+// Written out, since a derived text stands in no contract.
+impl fmt::Display for LineRefusal {
+    ghost output = { λ refusal. Some (line_refusal_label refusal).name };
+
+    fn fmt<W: fmt::Write>(&self, f: &mut fmt::Formatter<W>) -> fmt::Result {
+        f.write_str(self.name())
+    }
+}
+
+impl Error for LineRefusal {}
 
 impl Said {
     // The key that it tells.
@@ -99,6 +114,7 @@ impl Entry {
     }
 }
 
+// Written out, since a derived text stands in no contract.
 impl fmt::Display for Said {
     ghost output = { λ said. Some (said_word said) };
 
@@ -116,6 +132,7 @@ impl fmt::Display for Said {
     }
 }
 
+// Written out, since a derived text stands in no contract.
 impl fmt::Display for Column {
     ghost output = { λ column. Some (number_or_dash column.0) };
 
@@ -127,6 +144,7 @@ impl fmt::Display for Column {
     }
 }
 
+// Written out, since a derived text stands in no contract.
 impl fmt::Display for Entry {
     ghost output = { λ entry. Some (entry_bytes entry) };
 

@@ -11,7 +11,7 @@ use std::test::Fail;
 fn cuts(rt: HostRuntime) -> Result<(), Fail> {
     let (line, rest) = first_line(b"run\n\nleave").ok_or("no line feed")?;
     assert!(rt; line == b"run".as_slice() && rest == b"\nleave".as_slice());
-    assert!(rt; first_line(b"run").is_none());
+    assert_eq!(rt; first_line(b"run"), None);
     let (word, rest) = first_word(b"run ");
     assert!(rt; word == b"run".as_slice() && rest == Some(b""));
     let (word, rest) = first_word(b"run");
@@ -21,56 +21,48 @@ fn cuts(rt: HostRuntime) -> Result<(), Fail> {
 
 #[test]
 fn kinds_of_words(rt: HostRuntime) {
-    assert!(rt; matches!(Word::of(b"az"), Some(Word::Name(_))));
-    assert!(rt; matches!(Word::of(b"09"), Some(Word::Number(_))));
-    assert!(rt; matches!(Word::of(b"-"), Some(Word::Dash(_))));
+    assert_eq!(rt; Word::of(b"az"), Some(Word::Name(b"az")));
+    assert_eq!(rt; Word::of(b"09"), Some(Word::Number(b"09")));
+    assert_eq!(rt; Word::of(b"-"), Some(Word::Dash(b"-")));
     let others: [&[u8]; 6] = [b"", b"--", b"a1", b"Run", b"1\t", b"1\r"];
     for piece in others {
-        assert!(rt; Word::of(piece).is_none());
+        assert_eq!(rt; Word::of(piece), None);
     }
 }
 
 #[test]
 fn good_lines(rt: HostRuntime) {
-    assert!(rt;
-        matches!(
-            read(b"open 2 line 8"),
-            Some(Command::Open {
-                stations: 2,
-                guide: GuideName::Line,
-                places: 8
-            })
-        )
+    assert_eq!(rt;
+        read(b"open 2 line 8"),
+        Some(Command::Open {
+            stations: 2,
+            guide: GuideName::Line,
+            places: 8
+        })
     );
-    assert!(rt;
-        matches!(
-            read(b"begin 1 after 0020"),
-            Some(Command::Begin {
-                station: 1,
-                work: Work::After,
-                key: 20
-            })
-        )
+    assert_eq!(rt;
+        read(b"begin 1 after 0020"),
+        Some(Command::Begin {
+            station: 1,
+            work: Work::After,
+            key: 20
+        })
     );
-    assert!(rt;
-        matches!(
-            read(b"begin 1 first -"),
-            Some(Command::Begin {
-                station: 1,
-                work: Work::First,
-                key: 0
-            })
-        )
+    assert_eq!(rt;
+        read(b"begin 1 first -"),
+        Some(Command::Begin {
+            station: 1,
+            work: Work::First,
+            key: 0
+        })
     );
-    assert!(rt;
-        matches!(
-            read(b"run 4294967295 - -"),
-            Some(Command::Run {
-                station: 4294967295
-            })
-        )
+    assert_eq!(rt;
+        read(b"run 4294967295 - -"),
+        Some(Command::Run {
+            station: 4294967295
+        })
     );
-    assert!(rt; matches!(read(b"leave 0 - -"), Some(Command::Leave { station: 0 })));
+    assert_eq!(rt; read(b"leave 0 - -"), Some(Command::Leave { station: 0 }));
 }
 
 #[test]
@@ -92,21 +84,24 @@ fn bad_lines(rt: HostRuntime) {
         b"mend 1 - -",
     ];
     for line in lines {
-        assert!(rt; read(line).is_none());
+        assert_eq!(rt; read(line), None);
     }
 }
 
 #[test]
 fn whole_scripts(rt: HostRuntime) {
-    assert!(rt; lines_of(b"call station work key\nrun") == Some(b"run"));
-    assert!(rt; lines_of(b"call station work key\n") == Some(b""));
-    assert!(rt; lines_of(b"call station work key").is_none());
-    assert!(rt; lines_of(b"call station work\nrun").is_none());
-    assert!(rt; MOST_BYTES == 32768);
+    assert_eq!(rt;
+        lines_of(b"call station work key\nrun"),
+        Some(b"run".as_slice())
+    );
+    assert_eq!(rt; lines_of(b"call station work key\n"), Some(b"".as_slice()));
+    assert_eq!(rt; lines_of(b"call station work key"), None);
+    assert_eq!(rt; lines_of(b"call station work\nrun"), None);
+    assert_eq!(rt; MOST_BYTES, 32768);
 }
 
 fn prints(rt: &(impl Abort + AllocGlobal), line: u32, said: Said, text: &str) -> Result<(), Fail> {
-    assert!(rt; Entry { line, said }.text(rt.alloc())?.as_str() == text);
+    assert_eq!(rt; Entry { line, said }.text(rt.alloc())?.as_str(), text);
     Ok(())
 }
 
@@ -116,7 +111,7 @@ fn ended(answer: Answer<Ingredient>, steps: u64) -> Said {
 
 #[test]
 fn printed_lines(rt: HostRuntime) -> Result<(), Fail> {
-    assert!(rt; heading() == "line answer key steps");
+    assert_eq!(rt; heading(), "line answer key steps");
     prints(&rt, 1, Said::Opened, "1 opened - -")?;
     prints(&rt, 2, Said::Ran(Stepped::Waits), "2 waits - -")?;
     prints(&rt, 3, ended(Answer::Yes, 14), "3 yes - 14")?;

@@ -3,8 +3,8 @@ ghost use Rattle.std.specs.Prelude.{◌≡◌};
 ghost use Rattle.std.specs.Option.{option_map};
 ghost use Rattle.script.specs.Words.{both_now, cut_at, line_of, piece_of, made_of, is_name, is_dash, token, token_of, token_value, number_value};
 
-// A word of a line.
-#[derive(Clone, Copy)]
+// A word of a line, with its bytes: a script may hold any, so its lines and words are cut as bytes and no text.
+#[derive(Clone, Copy, PartialEq, Eq, Debug)]
 pub enum Word<'a> {
     // One or more lowercase letters.
     Name(&'a [u8]),
@@ -18,12 +18,8 @@ pub enum Word<'a> {
 fn cut_at(bytes: &[u8], mark: u8) -> Option<(&[u8], &[u8])>
     ensures { option_map both_now result ≡ cut_at mark bytes.now }
 {
-    for (i, b) in bytes.iter().enumerate() {
-        if *b == mark {
-            return Some((&bytes[0..i], &bytes[i + 1..]));
-        }
-    }
-    None
+    let at = bytes.iter().position(|b| *b == mark)?;
+    Some((&bytes[..at], &bytes[at + 1..]))
 }
 
 // The first line, without its line feed, and the rest of the text.
@@ -47,25 +43,18 @@ pub fn first_word(line: &[u8]) -> (&[u8], Option<&[u8]>)
 fn made_of(bytes: &[u8], low: u8, high: u8) -> bool
     ensures { result ≡ made_of low high bytes.now }
 {
-    for b in bytes {
-        if *b < low || high < *b {
-            return false;
-        }
-    }
-    !bytes.is_empty()
+    !bytes.is_empty() && bytes.iter().all(|b| (low..=high).contains(b))
 }
 
 // The decimal value of digits, if it fits. A byte below `0`, which no number has, would count as 0.
 fn value_of(digits: &[u8]) -> Option<u32>
     ensures { result ≡ number_value digits.now }
 {
-    let mut value: u32 = 0;
-    for digit in digits {
-        value = value
+    digits.iter().try_fold(0u32, |value, digit| {
+        value
             .checked_mul(10)?
-            .checked_add(u32::from(digit.saturating_sub(b'0')))?;
-    }
-    Some(value)
+            .checked_add(u32::from(digit.saturating_sub(b'0')))
+    })
 }
 
 impl<'a> Word<'a> {
@@ -88,20 +77,14 @@ impl<'a> Word<'a> {
     pub fn is_name(self, name: &[u8]) -> bool
         ensures { result ≡ is_name name.now (token self.entry) }
     {
-        match self {
-            Word::Name(bytes) => bytes == name,
-            Word::Number(_) | Word::Dash(_) => false,
-        }
+        self == Word::Name(name)
     }
 
     // Is it a dash?
     pub fn is_dash(self) -> bool
         ensures { result ≡ is_dash (token self.entry) }
     {
-        match self {
-            Word::Dash(_) => true,
-            Word::Name(_) | Word::Number(_) => false,
-        }
+        matches!(self, Word::Dash(_))
     }
 
     // The value of a number, if it is at most 4,294,967,295.

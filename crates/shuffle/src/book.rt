@@ -1,16 +1,18 @@
-// A book with an onlooker beside it.
-use crate::calls::{try_begin, try_leave, try_step};
-use crate::hold::some_progress;
+// A book with an onlooker beside it, who judges each call.
+mod calls;
+mod chain;
+mod hold;
+mod reads;
+mod usage;
+
 use crate::kind::{Kind, MOST_KEYS};
 use crate::onlooker::Onlooker;
-use crate::reads::{try_counts, try_list};
-use crate::usage::check_tidy;
 use crate::wrong::Wrong;
-use engine::{mend, open};
 use guides::Guide;
-use records::{Place, Station, Status, Work};
+use records::{Place, Station};
 use std::alloc::{AllocError, Global};
 
+// Its records lie on the heap, since a plan says how many there are. It also holds what the calls are judged by.
 #[derive(Drop)]
 pub struct Book<K, G> {
     places: Vec<Place<K>>,
@@ -19,53 +21,27 @@ pub struct Book<K, G> {
     // What list writes into.
     list: Vec<K>,
     onlooker: Onlooker,
+    // The accepted steps.
+    steps: u64,
 }
 
-fn blank<K: Kind>() -> Place<K> {
-    Place {
-        key: K::key(0),
-        next: 0,
-        prev: 0,
-        marked: false,
-        lock: None,
-        status: Status::Free,
-    }
-}
-
-// A value, so many times.
-fn repeated<T: Copy>(heap: Global, value: T, count: usize) -> Result<Vec<T>, AllocError> {
-    let mut values = Vec::new(heap);
-    for _ in 0..count {
-        values.push(value)?;
-    }
-    Ok(values)
-}
-
-// Opens a book; none if that was refused.
-pub fn open_book<K: Kind, G: Guide + Drop>(
-    heap: Global,
-    stations: usize,
-    places: usize,
-) -> Result<Option<Book<K, G>>, AllocError> {
-    let mut places = repeated(heap, blank::<K>(), places)?;
-    let mut stations = repeated(heap, Station::<K> { task: None }, stations)?;
-    let list = repeated(heap, K::key(0), MOST_KEYS)?;
-    let mut guide = G::new();
-    match open(places.as_mut_slice(), stations.as_mut_slice(), &mut guide) {
-        Ok(()) => Ok(Some(Book {
-            places,
-            stations,
-            guide,
-            list,
+impl<K: Kind, G: Guide + Drop> Book<K, G> {
+    // The records of a book that is to be opened.
+    pub fn new(heap: Global, stations: usize, places: usize) -> Result<Book<K, G>, AllocError> {
+        Ok(Book {
+            places: vec![in heap; Place::blank(K::key(0)); places]?,
+            stations: vec![in heap; Station { task: None }; stations]?,
+            guide: G::new(),
+            list: vec![in heap; K::key(0); MOST_KEYS]?,
             onlooker: Onlooker::new(),
-        })),
-        Err(_) => Ok(None),
+            steps: 0,
+        })
     }
 }
 
 impl<K: Kind, G: Guide> Book<K, G> {
     pub fn works(&self, station: usize) -> bool {
-        self.onlooker.watch(station).is_some()
+        self.onlooker.works(station)
     }
 
     pub fn is_idle(&self) -> bool {
@@ -82,69 +58,21 @@ impl<K: Kind, G: Guide> Book<K, G> {
         self.onlooker.contents.count()
     }
 
-    pub fn begin(&mut self, station: usize, work: Work, key: usize) -> Result<(), Wrong> {
-        try_begin(
-            self.places.as_slice(),
-            self.stations.as_mut_slice(),
-            &mut self.onlooker,
-            station,
-            work,
-            key,
-        )
-    }
-
-    // Says whether the step was accepted.
-    pub fn step(&mut self, station: usize) -> Result<bool, Wrong> {
-        try_step(
-            self.places.as_mut_slice(),
-            self.stations.as_mut_slice(),
-            &mut self.guide,
-            &mut self.onlooker,
-            station,
-        )
-    }
-
-    pub fn leave(&mut self, station: usize) -> Result<(), Wrong> {
-        try_leave(
-            self.places.as_mut_slice(),
-            self.stations.as_mut_slice(),
-            &mut self.onlooker,
-            station,
-        )
-    }
-
-    pub fn mend(&mut self) -> Result<(), Wrong> {
-        let _ = mend(&mut self.guide);
-        self.onlooker.see(self.places.as_slice())
-    }
-
-    pub fn list(&mut self, positions: usize) -> Result<(), Wrong> {
-        try_list(
-            self.places.as_slice(),
-            self.list.as_mut_slice(),
-            positions,
-            &mut self.onlooker,
-        )
-    }
-
-    pub fn counts(&mut self) -> Result<(), Wrong> {
-        try_counts(
-            self.places.as_slice(),
-            self.stations.as_slice(),
-            &mut self.onlooker,
-        )
+    // How many steps were accepted.
+    pub fn steps(&self) -> u64 {
+        self.steps
     }
 
     // What has to hold after every call.
     pub fn check(&self) -> Result<(), Wrong> {
-        if !self.onlooker.agrees(self.stations.as_slice()) {
+        if !self.onlooker.agrees(&self.stations) {
             return Err(Wrong::Stations);
         }
-        if !some_progress(self.places.as_slice(), self.stations.as_slice())? {
+        if self.is_stuck()? {
             return Err(Wrong::Stuck);
         }
         if self.onlooker.is_idle() {
-            check_tidy(self.places.as_slice(), &self.guide)?;
+            self.check_tidy()?;
         }
         Ok(())
     }

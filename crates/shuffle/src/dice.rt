@@ -1,4 +1,6 @@
 // Numbers that look random and are the same in every run.
+ghost use Rattle.std.specs.Prelude.{◌<◌, length};
+
 #[derive(Drop)]
 pub struct Dice {
     state: u64,
@@ -12,20 +14,28 @@ impl Dice {
     }
 
     // A number below the bound; 0 where the bound is 0.
-    pub fn roll(&mut self, bound: usize) -> usize {
+    // No Option: the bound is 0 only where a book has one station and another is drawn, and there the 0 is wanted.
+    pub fn roll(&mut self, bound: usize) -> usize
+        ensures { 0 < bound → result < bound }
+    {
         let a = self.state;
         let b = a ^ (a << 13);
         let c = b ^ (b >> 7);
         let d = c ^ (c << 17);
         self.state = d;
-        if bound == 0 {
-            return 0;
-        }
-        (d >> 32) as usize % bound
+        // `as`: see main.rt.
+        ((d >> 32) as usize).checked_rem(bound).unwrap_or(0)
     }
 
     // Yes, once in so many times.
     pub fn hits(&mut self, times: usize) -> bool {
         self.roll(times) == 0
+    }
+
+    // One of these.
+    pub fn one_of(&mut self, choices: &[usize]) -> usize
+        requires { 0 < length choices.now }
+    {
+        choices[self.roll(choices.len())]
     }
 }

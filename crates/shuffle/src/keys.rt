@@ -1,9 +1,10 @@
-// A simple set: a bool for each key of the universe.
+// A simple set of keys, by their numbers in the universe.
 use crate::kind::MOST_KEYS;
 
-#[derive(Clone, Copy)]
+// A bool for each key, and no BTreeSet: a set on the heap is no `Copy` value, and an `add` to it could lack memory.
+#[derive(Clone, Copy, PartialEq, Eq)]
 pub struct Keys {
-    held: [bool; 64],
+    held: [bool; MOST_KEYS],
 }
 
 // How one set differs from another.
@@ -17,52 +18,38 @@ pub enum Change {
 
 impl Keys {
     pub fn new() -> Keys {
-        Keys { held: [false; 64] }
+        Keys {
+            held: [false; MOST_KEYS],
+        }
     }
 
     pub fn has(&self, key: usize) -> bool {
-        key < MOST_KEYS && self.held[key]
+        self.held.get(key) == Some(&true)
     }
 
     pub fn add(&mut self, key: usize) {
-        if key < MOST_KEYS {
-            self.held[key] = true;
+        if let Some(held) = self.held.get_mut(key) {
+            *held = true;
         }
     }
 
     pub fn count(&self) -> usize {
-        let mut count: usize = 0;
-        for i in 0..MOST_KEYS {
-            if self.held[i] {
-                count = count.saturating_add(1);
-            }
-        }
-        count
+        self.held.iter().filter(|held| **held).count()
     }
 
     // The smallest key from this one on.
     pub fn smallest_from(&self, from: usize) -> Option<usize> {
-        for i in from..MOST_KEYS {
-            if self.has(i) {
-                return Some(i);
-            }
-        }
-        None
+        (from..MOST_KEYS).find(|key| self.has(*key))
     }
 
     // How the set differs from what it was before.
     pub fn change_since(&self, before: &Keys) -> Change {
-        let mut change = Change::Same;
-        for i in 0..MOST_KEYS {
-            let is = self.held[i];
-            if is != before.held[i] {
-                change = match change {
-                    Change::Same if is => Change::Added(i),
-                    Change::Same => Change::Taken(i),
-                    Change::Added(_) | Change::Taken(_) | Change::Many => Change::Many,
-                };
-            }
+        let mut changed = (0..MOST_KEYS).filter(|key| self.has(*key) != before.has(*key));
+        match (changed.next(), changed.next()) {
+            (None, _) => Change::Same,
+            (Some(key), None) if self.has(key) => Change::Added(key),
+            (Some(key), None) => Change::Taken(key),
+            (Some(_), Some(_)) => Change::Many,
         }
-        change
     }
 }

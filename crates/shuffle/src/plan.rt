@@ -1,4 +1,6 @@
 // How a book is dealt: its sizes, its keys, and what its stations like to do.
+ghost use Rattle.std.specs.Prelude.{◌<◌, ◌≤◌};
+
 use crate::dice::Dice;
 use crate::kind::MOST_KEYS;
 use records::Work;
@@ -10,35 +12,44 @@ pub struct Plan {
     // The keys that are used: so many from this one on.
     first_key: usize,
     keys: usize,
-    // How many of the kinds of work the stations but station 0 use.
+    // The stations but station 0 use the first so many of the works below.
     works: usize,
+    ghost some_works: { 0 < works },
+    ghost known_works: { works ≤ 8 },
     // Another station goes on for about so many calls before the next follows.
     burst: usize,
     // Station 0 makes one call in so many, so that its works last long.
     patience: usize,
 }
 
-fn one_of(dice: &mut Dice, choices: [usize; 4]) -> usize {
-    let i = dice.roll(4);
-    if i < 4 { choices[i] } else { 1 }
-}
+// A station draws its works from the first so many of these.
+const WORKS: [Work; 8] = [
+    Work::Put,
+    Work::Strike,
+    Work::Look,
+    Work::After,
+    Work::First,
+    Work::After,
+    Work::Put,
+    Work::Strike,
+];
 
 // Few places most often, and all that the straight guide holds now and then.
 fn some_places(dice: &mut Dice) -> usize {
     if dice.hits(24) {
         return 64;
     }
-    let most = one_of(dice, [4, 8, 19, 19]);
+    let most = dice.one_of(&[4, 8, 19, 19]);
     dice.roll(most).saturating_add(2)
 }
 
 fn some_stations(dice: &mut Dice) -> usize {
-    let most = one_of(dice, [3, 4, 8, 16]);
+    let most = dice.one_of(&[3, 4, 8, 16]);
     dice.roll(most).saturating_add(1)
 }
 
 fn some_keys(dice: &mut Dice, places: usize) -> usize {
-    let most = one_of(dice, [3, 3, places, MOST_KEYS]);
+    let most = dice.one_of(&[3, 3, places, MOST_KEYS]);
     dice.roll(most).saturating_add(2).min(MOST_KEYS)
 }
 
@@ -48,9 +59,9 @@ impl Plan {
         let stations = some_stations(dice);
         let keys = some_keys(dice, places);
         let first_key = dice.roll(MOST_KEYS.saturating_sub(keys).saturating_add(1));
-        let works = one_of(dice, [2, 4, 6, 8]);
-        let burst = one_of(dice, [1, 3, 8, 20]);
-        let patience = one_of(dice, [2, 6, 16, 30]);
+        let works = 2 * (dice.roll(4) + 1);
+        let burst = dice.one_of(&[1, 3, 8, 20]);
+        let patience = dice.one_of(&[2, 6, 16, 30]);
         Plan {
             stations,
             places,
@@ -82,12 +93,6 @@ impl Plan {
 
     pub fn some_work(&self, dice: &mut Dice, station: usize) -> Work {
         let kinds = if station == 0 { 6 } else { self.works };
-        match dice.roll(kinds) {
-            0 | 6 => Work::Put,
-            1 | 7 => Work::Strike,
-            2 => Work::Look,
-            3 | 5 => Work::After,
-            _ => Work::First,
-        }
+        WORKS[dice.roll(kinds)]
     }
 }

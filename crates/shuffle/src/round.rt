@@ -5,32 +5,38 @@ use crate::kind::{Kind, MOST_KEYS};
 use crate::plan::Plan;
 use crate::wrong::Wrong;
 use guides::Guide;
+use std::alloc::{AllocError, Global};
+use std::fmt;
+use std::ops::AddAssign;
+use thiserror::Error;
 
-// What was done, and what is wrong if something is.
-#[derive(Clone, Copy)]
-pub struct Round {
-    pub calls: u64,
+// What was done on a book.
+#[derive(Clone, Copy, Default)]
+pub struct Done {
+    calls: u64,
     // The accepted steps.
-    pub steps: u64,
-    pub wrong: Option<Wrong>,
+    steps: u64,
 }
 
-impl Round {
-    fn done(calls: u64, steps: u64) -> Round {
-        Round {
-            calls,
-            steps,
-            wrong: None,
-        }
+impl AddAssign for Done {
+    fn add_assign(&mut self, more: Done) {
+        self.calls = self.calls.saturating_add(more.calls);
+        self.steps = self.steps.saturating_add(more.steps);
     }
+}
 
-    pub fn stopped(calls: u64, steps: u64, wrong: Wrong) -> Round {
-        Round {
-            calls,
-            steps,
-            wrong: Some(wrong),
-        }
+impl fmt::Display for Done {
+    fn fmt<W: fmt::Write>(&self, f: &mut fmt::Formatter<W>) -> fmt::Result {
+        write!(f, "{} calls, {} steps", self.calls, self.steps)
     }
+}
+
+// What is wrong, and at which call.
+#[derive(Clone, Copy, Debug, Error)]
+#[error("call {call}: {wrong}")]
+pub struct Stop {
+    call: u64,
+    wrong: Wrong,
 }
 
 // So many calls, and then no work is begun any more.
@@ -39,127 +45,125 @@ const CALLS: u64 = 600;
 // By this call every work has ended.
 const MOST_CALLS: u64 = 10_000;
 
-fn begin_some<K: Kind, G: Guide>(
-    book: &mut Book<K, G>,
-    plan: &Plan,
-    dice: &mut Dice,
-    station: usize,
-) -> Result<bool, Wrong> {
-    let work = plan.some_work(dice, station);
-    let key = plan.some_key(dice);
-    book.begin(station, work, key)?;
-    Ok(false)
+// A book, and how its calls are dealt.
+#[derive(Drop)]
+pub struct Round<K, G> {
+    book: Book<K, G>,
+    plan: Plan,
+    dice: Dice,
+    // The station that made the last call, station 0 aside.
+    last: usize,
+    calls: u64,
 }
 
-fn leave_some<K: Kind, G: Guide>(book: &mut Book<K, G>, station: usize) -> Result<bool, Wrong> {
-    book.leave(station)?;
-    Ok(false)
-}
-
-// A list with positions enough, or with about as many as there are keys.
-fn list_some<K: Kind, G: Guide>(book: &mut Book<K, G>, dice: &mut Dice) -> Result<bool, Wrong> {
-    let positions = if dice.hits(2) {
-        MOST_KEYS
-    } else {
-        dice.roll(book.count().saturating_add(2))
-    };
-    book.list(positions)?;
-    Ok(false)
-}
-
-fn count_some<K: Kind, G: Guide>(book: &mut Book<K, G>) -> Result<bool, Wrong> {
-    book.counts()?;
-    Ok(false)
-}
-
-fn mend_some<K: Kind, G: Guide>(book: &mut Book<K, G>) -> Result<bool, Wrong> {
-    book.mend()?;
-    Ok(false)
-}
-
-// A call for a station that there is not.
-fn bad_station<K: Kind, G: Guide>(
-    book: &mut Book<K, G>,
-    plan: &Plan,
-    dice: &mut Dice,
-) -> Result<bool, Wrong> {
-    let beyond = match dice.roll(2) {
-        0 => 0,
-        _ => dice.roll(300),
-    };
-    let station = book.size().saturating_add(beyond);
-    match dice.roll(3) {
-        0 => leave_some(book, station),
-        1 => book.step(station),
-        _ => begin_some(book, plan, dice, station),
+impl<K: Kind, G: Guide + Drop> Round<K, G> {
+    // A round of its own for the seed.
+    pub fn new(heap: Global, seed: u64) -> Result<Round<K, G>, AllocError> {
+        let mut dice = Dice::new(seed);
+        let plan = Plan::new(&mut dice);
+        Ok(Round {
+            book: Book::new(heap, plan.stations, plan.places)?,
+            plan,
+            dice,
+            last: 0,
+            calls: 0,
+        })
     }
 }
 
-// A station that works makes a step most often, one that does not begins a work. Says whether a step was accepted.
-fn one_call<K: Kind, G: Guide>(
-    book: &mut Book<K, G>,
-    plan: &Plan,
-    dice: &mut Dice,
-    station: usize,
-) -> Result<bool, Wrong> {
-    let works = book.works(station);
-    match dice.roll(160) {
-        0..=1 => leave_some(book, station),
-        2..=3 => book.step(station),
-        4 => begin_some(book, plan, dice, station),
-        5..=6 => list_some(book, dice),
-        7..=10 => count_some(book),
-        11..=20 => mend_some(book),
-        21 => bad_station(book, plan, dice),
-        _ if works => book.step(station),
-        _ => begin_some(book, plan, dice, station),
-    }
-}
-
-// The station whose turn it is. Once no work is begun any more, all have their turns alike.
-fn choose(plan: &Plan, dice: &mut Dice, last: &mut usize, closing: bool) -> usize {
-    if closing {
-        return dice.roll(plan.stations);
-    }
-    if plan.is_slow_turn(dice) {
-        return 0;
-    }
-    *last = plan.next_station(dice, *last);
-    *last
-}
-
-// One call and its checks. Says whether a step was accepted.
-fn turn<K: Kind, G: Guide>(
-    book: &mut Book<K, G>,
-    plan: &Plan,
-    dice: &mut Dice,
-    station: usize,
-    closing: bool,
-) -> Result<bool, Wrong> {
-    let stepped = if closing {
-        book.step(station)?
-    } else {
-        one_call(book, plan, dice, station)?
-    };
-    book.check()?;
-    Ok(stepped)
-}
-
-// Some hundreds of calls on a book that was opened, and then steps until every work has ended.
-pub fn play_round<K: Kind, G: Guide>(book: &mut Book<K, G>, plan: &Plan, dice: &mut Dice) -> Round {
-    let mut last: usize = 0;
-    let mut steps: u64 = 0;
-    for calls in 0..MOST_CALLS {
-        let closing = calls >= CALLS;
-        if closing && book.is_idle() {
-            return Round::done(calls, steps);
-        }
-        let station = choose(plan, dice, &mut last, closing);
-        match turn(book, plan, dice, station, closing) {
-            Ok(true) => steps = steps.saturating_add(1),
-            Ok(false) => {}
-            Err(wrong) => return Round::stopped(calls, steps, wrong),
+impl<K: Kind, G: Guide> Round<K, G> {
+    // Plays the round and says what was done.
+    pub fn play(&mut self) -> Result<Done, Stop> {
+        let played = self.play_all();
+        let calls = self.calls;
+        match played {
+            Ok(()) => Ok(Done {
+                calls,
+                steps: self.book.steps(),
+            }),
+            Err(wrong) => Err(Stop { call: calls, wrong }),
         }
     }
-    Round::stopped(MOST_CALLS, steps, Wrong::Unfinished)
+
+    // Opens the book, and then some hundreds of calls and steps until every work has ended.
+    fn play_all(&mut self) -> Result<(), Wrong> {
+        self.book.open()?;
+        for _ in 0..CALLS {
+            let station = self.next_station();
+            self.call(station)?;
+            self.check()?;
+        }
+        for _ in CALLS..MOST_CALLS {
+            if self.book.is_idle() {
+                return Ok(());
+            }
+            let station = self.dice.roll(self.plan.stations);
+            self.book.step(station)?;
+            self.check()?;
+        }
+        Err(Wrong::Unfinished)
+    }
+
+    // The call that was made is followed by the checks.
+    fn check(&mut self) -> Result<(), Wrong> {
+        self.book.check()?;
+        self.calls = self.calls.saturating_add(1);
+        Ok(())
+    }
+
+    // The station whose turn it is, while works are begun.
+    fn next_station(&mut self) -> usize {
+        if self.plan.is_slow_turn(&mut self.dice) {
+            return 0;
+        }
+        self.last = self.plan.next_station(&mut self.dice, self.last);
+        self.last
+    }
+
+    // A station that works makes a step most often, one that does not begins a work.
+    fn call(&mut self, station: usize) -> Result<(), Wrong> {
+        let works = self.book.works(station);
+        match self.dice.roll(160) {
+            0..=1 => self.book.leave(station),
+            2..=3 => self.book.step(station),
+            4 => self.begin(station),
+            5..=6 => self.list(),
+            7..=10 => self.book.counts(),
+            11..=20 => self.book.mend(),
+            21 => self.call_beyond(),
+            _ if works => self.book.step(station),
+            _ => self.begin(station),
+        }
+    }
+
+    fn begin(&mut self, station: usize) -> Result<(), Wrong> {
+        let work = self.plan.some_work(&mut self.dice, station);
+        let key = self.plan.some_key(&mut self.dice);
+        self.book.begin(station, work, key)
+    }
+
+    // A list with positions enough, or with about as many as there are keys.
+    fn list(&mut self) -> Result<(), Wrong> {
+        let positions = if self.dice.hits(2) {
+            MOST_KEYS
+        } else {
+            self.dice.roll(self.book.count().saturating_add(2))
+        };
+        self.book.list(positions)
+    }
+
+    // A call for a station that there is not.
+    fn call_beyond(&mut self) -> Result<(), Wrong> {
+        let beyond = if self.dice.hits(2) {
+            0
+        } else {
+            self.dice.roll(300)
+        };
+        let station = self.book.size().saturating_add(beyond);
+        match self.dice.roll(3) {
+            0 => self.book.leave(station),
+            1 => self.book.step(station),
+            _ => self.begin(station),
+        }
+    }
 }

@@ -3,7 +3,7 @@
 ghost use Rattle.std.specs.Prelude.{◌≡◌, true};
 ghost use Rattle.guides.specs.Meaning.{has};
 
-use guides::{Beside, Guide, GuideRefusal, HIGH, Mended, Number, Side};
+use guides::{Beside, Guide, GuideRefusal, HIGH, LOW, Mended, Number, Side};
 
 #[derive(Drop)]
 pub struct Rover<G> {
@@ -18,26 +18,23 @@ pub struct Rover<G> {
 fn ends<G: Guide>(guide: &G, place: Number, side: Side) -> bool
     ensures { result ≡ true → has place (G.Guide.meaning guide.now).sequence ≡ true }
 {
-    match guide.beside(place, side) {
-        Beside::End => true,
-        Beside::Absent => false,
-        Beside::Stands(_) => false,
-    }
+    guide.beside(place, side) == Beside::End
 }
 
 // The number after this one, round and round the places.
 fn moved_on(from: Number, places: usize) -> Number {
-    if (from as usize).saturating_add(1) < places {
-        from.saturating_add(1)
+    let next = from.saturating_add(1);
+    if usize::from(next) < places {
+        next
     } else {
-        0
+        LOW
     }
 }
 
 impl<G: Guide> Guide for Rover<G> {
     const CAPACITY: usize = G::CAPACITY;
 
-    ghost most = { G.Guide.most };
+    ghost CAPACITY = { G.Guide.CAPACITY };
 
     ghost meaning = { λ g. G.Guide.meaning g.inner };
 
@@ -45,10 +42,6 @@ impl<G: Guide> Guide for Rover<G> {
     ghost mends = { λ g m h. G.Guide.mends g.inner m h.inner };
 
     ghost keeps = { λ r. G.Guide.keeps r.inner };
-
-    fn limit() -> usize {
-        G::limit()
-    }
 
     fn new() -> Rover<G> {
         Rover {
@@ -66,10 +59,7 @@ impl<G: Guide> Guide for Rover<G> {
 
     // Where the start has wandered to, or High if that place is not in the sequence or lies inside it.
     fn start(&self) -> Number {
-        if ends(&self.inner, self.from, Side::Lower) {
-            return self.from;
-        }
-        if ends(&self.inner, self.from, Side::Higher) {
+        if ends(&self.inner, self.from, Side::Lower) || ends(&self.inner, self.from, Side::Higher) {
             return self.from;
         }
         if ends(&self.inner, HIGH, Side::Higher) {

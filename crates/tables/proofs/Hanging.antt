@@ -12,7 +12,6 @@ use Rattle.tables.specs.Entries.{with_child, fresh, with_after, with_before}
 use Rattle.tables.specs.Revisions.{at}
 use Rattle.tables.specs.Shapes.{Shape, bare, node, order}
 use Rattle.tables.proofs.Holding.{Holds, meant, parts_of, once_of, nought_of, below_of, high_stands}
-use Rattle.tables.proofs.Holding.{after_child, before_child}
 use Rattle.tables.proofs.Links.{hang_shows}
 use Rattle.tables.proofs.Orders.{fronts, backs, order_plug, root_plug, above_stands}
 use Rattle.tables.proofs.Spots.{Shows, Spot, under, plug, holds, has_order, frame_shows, Same, root_join, join}
@@ -124,8 +123,8 @@ module _ (es : List Entry) (n : ℕ) (side : Side) (j : Spot) (q : ℕ) (s : Sha
 
   links : (y : ℕ) → Same (g y) (d y)
   links y = (
-    ap (λ (e : Entry). e.left) (reads y) ∙ field_kept (λ e. e.left) quiet y (g y) (inr (λ e. refl), (inr (λ e. refl), tt)),
-    ap (λ (e : Entry). e.right) (reads y) ∙ field_kept (λ e. e.right) quiet y (g y) (inr (λ e. refl), (inr (λ e. refl), tt)),
+    ap (λ (e : Entry). e.children.left) (reads y) ∙ field_kept (λ e. e.children.left) quiet y (g y) (inr (λ e. refl), (inr (λ e. refl), tt)),
+    ap (λ (e : Entry). e.children.right) (reads y) ∙ field_kept (λ e. e.children.right) quiet y (g y) (inr (λ e. refl), (inr (λ e. refl), tt)),
     ap (λ (e : Entry). e.parent) (reads y) ∙ field_kept (λ e. e.parent) quiet y (g y) (inr (λ e. refl), (inr (λ e. refl), tt)),
   )
 
@@ -145,13 +144,13 @@ module _ (es : List Entry) (n : ℕ) (side : Side) (j : Spot) (q : ℕ) (s : Sha
   after_kept y not_x not_lower =
       ap (λ (e : Entry). e.after) (reads y)
       ∙ field_kept (λ e. e.after) (hanging side q x lower upper) y (f y)
-      (inr (λ e. after_child side x e), (inl not_x, (inl not_lower, (inr (λ e. refl), tt))))
+      (inr (λ e. refl), (inl not_x, (inl not_lower, (inr (λ e. refl), tt))))
 
   before_kept : (y : ℕ) → (y ≡ x → ⊥) → (y ≡ upper → ⊥) → (d y).before ≡ (f y).before
   before_kept y not_x not_upper =
       ap (λ (e : Entry). e.before) (reads y)
       ∙ field_kept (λ e. e.before) (hanging side q x lower upper) y (f y)
-      (inr (λ e. before_child side x e), (inl not_x, (inr (λ e. refl), (inl not_upper, tt))))
+      (inr (λ e. refl), (inl not_x, (inr (λ e. refl), (inl not_upper, tt))))
 
   not_x : (y : ℕ) → has y (0 ∷ order t) ≡ true → y ≡ x → ⊥
   not_x y e i = differs x y (0 ∷ order t) fresh_x e (sym i)

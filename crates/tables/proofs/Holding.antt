@@ -3,13 +3,10 @@ use Rattle.std.proofs.Common.{◌≡◌, ℕ, suc, ◌<◌, ◌≤◌, true, fal
 use Rattle.std.specs.List.{AllByRecursion as All}
 use Rattle.std.proofs.lemmas.Bool.{cases_Bool, cases_eq, and_parts, and_from, eqb-true, eqb-false, eq-eqb, ne_eqb, both_ways, or_right, or_parts, or_from, not_from_true, not_from_false, leb-true, leb-false}
 use Rattle.std.proofs.lemmas.Bool.Decides.{nat_tests}
-use Rattle.guides.specs.declared.answer.Side.{Side}
-use Rattle.guides.specs.declared.answer.Side.TheVariants.{Lower, Higher}
 use Rattle.guides.specs.Meaning.{Meaning, has, distinct, all_below, lawful}
 use Rattle.guides.proofs.Sequences.{Lawful, lawful_parts}
 use Rattle.guides.proofs.Pigeonhole.{lawful_length}
 use Rattle.tables.specs.declared.entry.Entry.{Entry}
-use Rattle.tables.specs.Entries.{with_child}
 use Rattle.tables.specs.Revisions.{at}
 use Rattle.tables.specs.Shapes.{Shape, node, root, order, shape_of, grown, sequence_of, tree_meaning, idle, shows, threaded}
 use Rattle.tables.specs.Shapes.{keeps_law, keeps_links, keeps_thread, KeepsRest}
@@ -173,13 +170,3 @@ within_table n t [] room law all = tt
 within_table n t (c ∷ cs) room law all =
     let here = below_has n c.0 (0 ∷ order t) law all.0 in
     (omega arith, within_table n t cs room law all.1)
-
--- ---- what a write of a child leaves
-
-pub after_child : (side : Side) (c : ℕ) (e : Entry) → (with_child side c e).after ≡ e.after
-after_child Lower c e = refl
-after_child Higher c e = refl
-
-pub before_child : (side : Side) (c : ℕ) (e : Entry) → (with_child side c e).before ≡ e.before
-before_child Lower c e = refl
-before_child Higher c e = refl

@@ -6,7 +6,8 @@ use Rattle.guides.specs.declared.answer.Side.{Side}
 use Rattle.guides.specs.declared.answer.Side.TheVariants.{Lower, Higher}
 use Rattle.tables.specs.declared.entry.Entry.{Entry}
 use Rattle.tables.specs.Changes.{lifting, yielding, turning}
-use Rattle.tables.specs.Entries.{child, opposite, with_child, with_exchanged, with_parent, with_links}
+use Rattle.guides.specs.Sides.{opposite}
+use Rattle.tables.specs.Entries.{child, with_child, with_exchanged, with_parent, with_links}
 use Rattle.tables.specs.Entries.{only_child, fresh}
 use Rattle.tables.specs.Shapes.{Shape, bare, node, root}
 use Rattle.tables.proofs.Spots.{Shows, Spot, top, under, join, plug, above, around, holds, Around, Same, frame_shows, holds_root}
@@ -17,7 +18,7 @@ use Rattle.tables.proofs.Writes.{touched, touch_hit, touch_skip, touched_away}
 -- ---- what keeps its links
 
 pub same_as : (e d : Entry) → d ≡ e → Same e d
-same_as e d h = (ap (λ (x : Entry). x.left) h, ap (λ (x : Entry). x.right) h, ap (λ (x : Entry). x.parent) h)
+same_as e d h = (ap (λ (x : Entry). x.children.left) h, ap (λ (x : Entry). x.children.right) h, ap (λ (x : Entry). x.parent) h)
 
 child_same : (side : Side) (e d : Entry) → Same e d → child side d ≡ child side e
 child_same Lower e d h = h.0
@@ -64,11 +65,11 @@ exchanges : (side : Side) (e : Entry) (x c : ℕ) → child side e ≡ x → (ch
     × (child (opposite side) (with_exchanged x c e) ≡ child (opposite side) e)
     × ((with_exchanged x c e).parent ≡ e.parent)
 exchanges Lower e x c h k =
-    let w = ap (λ b. with_child (cond b Lower Higher) c e) (eq-eqb e.left x h) in
-    (ap (λ (d : Entry). d.left) w, ap (λ (d : Entry). d.right) w, ap (λ (d : Entry). d.parent) w)
+    let w = ap (λ b. with_child (cond b Lower Higher) c e) (eq-eqb e.children.left x h) in
+    (ap (λ (d : Entry). d.children.left) w, ap (λ (d : Entry). d.children.right) w, ap (λ (d : Entry). d.parent) w)
 exchanges Higher e x c h k =
-    let w = ap (λ b. with_child (cond b Lower Higher) c e) (ne_eqb e.left x k) in
-    (ap (λ (d : Entry). d.right) w, ap (λ (d : Entry). d.left) w, ap (λ (d : Entry). d.parent) w)
+    let w = ap (λ b. with_child (cond b Lower Higher) c e) (ne_eqb e.children.left x k) in
+    (ap (λ (d : Entry). d.children.right) w, ap (λ (d : Entry). d.children.left) w, ap (λ (d : Entry). d.parent) w)
 
 -- c hangs where x hung.
 relinked : (f h : ℕ → Entry) (k : Spot) (x c : ℕ) → OnceAround k → Around f k x → around x k ≡ false → (x ≡ 0 → ⊥)
@@ -82,7 +83,8 @@ relinked f h (under side k p s) x c once a away nz same here =
     let apart = root_differs s x (or_parts _ _ rest).0 nz in
     let new = exchanges side (f p) x c a.0 (λ e. apart (sym a.1 ∙ e)) in
     rehung f h side k p s x c once a same
-    (child_same side _ _ now ∙ new.0) (child_same (opposite side) _ _ now ∙ new.1) (now.2 ∙ new.2)
+    (child_same side (with_exchanged x c (f p)) (h p) now ∙ new.0)
+    (child_same (opposite side) (with_exchanged x c (f p)) (h p) now ∙ new.1) (now.2 ∙ new.2)
 
 -- The tree u hangs from another parent q.
 adopted : (f h : ℕ → Entry) (x q : ℕ) (u : Shape) → Once u → Shows f x u
@@ -223,10 +225,6 @@ within_false : (t u : Shape) (y : ℕ) → ((z : ℕ) → holds z u ≡ true →
 within_false t u y part away =
     elim (cases_Bool (holds y u)) [ inl e ↦ absurd (both_ways _ away (part y e)) | inr e ↦ e ]
 
-child_parent : (side : Side) (q : ℕ) (e : Entry) → child side (with_parent q e) ≡ child side e
-child_parent Lower q e = refl
-child_parent Higher q e = refl
-
 differ : (t : Shape) (y z : ℕ) → holds y t ≡ true → holds z t ≡ false → y ≡ z → ⊥
 differ t y z here away i = both_ways _ away (ap (λ w. holds w t) (sym i) ∙ here)
 
@@ -269,8 +267,8 @@ hang_shows f h side j q s x lower upper shown once absent is =
     (ap (child side) new ∙ child_new side x (f q))
     (ap (child (opposite side)) new ∙ child_other side x (f q))
     (ap (λ (e : Entry). e.parent) new ∙ parent_other side x (f q))) (
-      ap (λ (e : Entry). e.left) own,
-      ap (λ (e : Entry). e.right) own,
+      ap (λ (e : Entry). e.children.left) own,
+      ap (λ (e : Entry). e.children.right) own,
       ap (λ (e : Entry). e.parent) own,
       tt,
       tt,
@@ -297,8 +295,8 @@ yield_shows f h k l p r s shown once zero absent nonzero reads =
     let is : (y : ℕ) → h y ≡ touched (swaps ∷ lows ∷ highs ∷ takes ∷ []) y (f y) =
     λ y.
     reads y
-    ∙ ap (λ d. touched ((d, with_exchanged p s) ∷ ((f p).left, with_parent s) ∷ ((f p).right, with_parent s) ∷ takes ∷ []) y (f y)) hole.2
-    ∙ ap (λ d. touched (swaps ∷ (d, with_parent s) ∷ ((f p).right, with_parent s) ∷ takes ∷ []) y (f y)) hole.0
+    ∙ ap (λ d. touched ((d, with_exchanged p s) ∷ ((f p).children.left, with_parent s) ∷ ((f p).children.right, with_parent s) ∷ takes ∷ []) y (f y)) hole.2
+    ∙ ap (λ d. touched (swaps ∷ (d, with_parent s) ∷ ((f p).children.right, with_parent s) ∷ takes ∷ []) y (f y)) hole.0
     ∙ ap (λ d. touched (swaps ∷ lows ∷ (d, with_parent s) ∷ takes ∷ []) y (f y)) hole.1 in
     let not_low = root_outside k l at.near_apart at.nought_around in
     let not_high = root_outside k r at.far_apart at.nought_around in
@@ -325,8 +323,8 @@ yield_shows f h k l p r s shown once zero absent nonzero reads =
     ∙ touch_hit swaps (lows ∷ highs ∷ takes ∷ []) q (f q) refl
     ∙ touched_away (lows ∷ highs ∷ takes ∷ []) q (with_exchanged p s (f q))
     (not_low q e, (not_high q e, (differ_around k q s e out.1, tt)))))) (
-      ap (λ (e : Entry). e.left) own ∙ hole.0,
-      ap (λ (e : Entry). e.right) own ∙ hole.1,
+      ap (λ (e : Entry). e.children.left) own ∙ hole.0,
+      ap (λ (e : Entry). e.children.right) own ∙ hole.1,
       ap (λ (e : Entry). e.parent) own ∙ hole.2,
       adopted f h p s l at.inside_once.near hole.3
           (λ y e away.
@@ -439,12 +437,12 @@ turn_shows f h k side u c v n a shown once zero reads =
     ∙ touch_hit third (fourth ∷ []) q (f q) refl
     ∙ touched_away (fourth ∷ []) q (with_exchanged n c (f q)) (not_c q e, tt)))))
     (joins h q far (join side u n a) c v record {
-      near = ap (child far) own_c ∙ child_parent far q _ ∙ child_new far n (f c) ∙ sym (root_join side u n a);
-      far = ap (child (opposite far)) own_c ∙ child_parent (opposite far) q _ ∙ child_other far n (f c) ∙ below.far;
+      near = ap (child far) own_c ∙ child_new far n (f c) ∙ sym (root_join side u n a);
+      far = ap (child (opposite far)) own_c ∙ child_other far n (f c) ∙ below.far;
       parent = ap (λ (e : Entry). e.parent) own_c;
       inner = joins h c side u n a record {
-        near = ap (child side) own_n ∙ child_parent side c _ ∙ child_new side iu (f n);
-        far = ap (child far) own_n ∙ child_parent far c _ ∙ child_other side iu (f n) ∙ hole.far;
+        near = ap (child side) own_n ∙ child_new side iu (f n);
+        far = ap (child far) own_n ∙ child_other side iu (f n) ∙ hole.far;
         parent = ap (λ (e : Entry). e.parent) own_n;
         inner = adopted f h c n u in'.near below.inner
             (λ y e away.

@@ -43,8 +43,8 @@ opened_holds n two =
       top_is = refl;
       law = cleared_is_lawful n two;
       shown = (
-        ap (λ (e : Entry). e.left) one,
-        ap (λ (e : Entry). e.right) one,
+        ap (λ (e : Entry). e.children.left) one,
+        ap (λ (e : Entry). e.children.right) one,
         ap (λ (e : Entry). e.parent) one,
         tt,
         tt,

@@ -82,7 +82,7 @@ pub record Last (f : ℕ → Entry) (u : Shape) : Type 0 where
   pub place : ℕ
   pub before : List ℕ
   pub is : order u ≡ before ++ place ∷ []
-  pub ends : (f place).right ≡ 0
+  pub ends : (f place).children.right ≡ 0
 
 pub last_of : (f : ℕ → Entry) (q : ℕ) (l : Shape) (p : ℕ) (r : Shape) → Shows f q (node l p r) → Last f (node l p r)
 last_of f q l p bare s = record { place = p; before = order l; is = refl; ends = s.1 }
@@ -112,7 +112,7 @@ grown_shows (suc m) f q (node l p r) fits zero_out s =
     let parts = or_parts (eqb p 0) (holds 0 l || holds 0 r) zero_out in
     let trees = or_parts (holds 0 l) (holds 0 r) parts.1 in
     cond-false _ _ _ parts.0
-    ∙ ap (λ t. node t p (grown m f (f p).right))
+    ∙ ap (λ t. node t p (grown m f (f p).children.right))
     (ap (grown m f) s.0 ∙ grown_shows m f p l (omega arith) trees.0 s.3)
     ∙ ap (λ t. node l p t) (ap (grown m f) s.1 ∙ grown_shows m f p r (omega arith) trees.1 s.4)
 

@@ -153,10 +153,10 @@ module _ (es : List Entry) (n : ℕ) (t : Shape) (h : Holds (at es) n t) (sized 
       frame_shows g d 0 u
       (λ y e.
       let other = not_p y (has_right y (0 ∷ []) (order u) (has_order y u ∙ e)) in (
-        ap (λ (x : Entry). x.left) (reads y)
-            ∙ field_kept (λ x. x.left) writes y (g y) (inr (λ x. refl), (inr (λ x. refl), (inl other, tt))),
-        ap (λ (x : Entry). x.right) (reads y)
-            ∙ field_kept (λ x. x.right) writes y (g y) (inr (λ x. refl), (inr (λ x. refl), (inl other, tt))),
+        ap (λ (x : Entry). x.children.left) (reads y)
+            ∙ field_kept (λ x. x.children.left) writes y (g y) (inr (λ x. refl), (inr (λ x. refl), (inl other, tt))),
+        ap (λ (x : Entry). x.children.right) (reads y)
+            ∙ field_kept (λ x. x.children.right) writes y (g y) (inr (λ x. refl), (inr (λ x. refl), (inl other, tt))),
         ap (λ (x : Entry). x.parent) (reads y)
             ∙ field_kept (λ x. x.parent) writes y (g y) (inr (λ x. refl), (inr (λ x. refl), (inl other, tt))),
       ))

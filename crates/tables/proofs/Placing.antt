@@ -48,12 +48,12 @@ full_side lower right h =
       | inr e ↦ inr (eqb-false right 0 e)
     ]
 
-pub goes_right : (lower x upper : ℕ) (es : List Entry) → (not (eqb lower 0) && eqb (at es lower).right 0) ≡ true
+pub goes_right : (lower x upper : ℕ) (es : List Entry) → (not (eqb lower 0) && eqb (at es lower).children.right 0) ≡ true
     → hung_between lower x upper es ≡ hung Higher lower x lower upper es
 unfolding hung_between
 goes_right lower x upper es h = cond-true _ _ _ h
 
-pub goes_left : (lower x upper : ℕ) (es : List Entry) → (not (eqb lower 0) && eqb (at es lower).right 0) ≡ false
+pub goes_left : (lower x upper : ℕ) (es : List Entry) → (not (eqb lower 0) && eqb (at es lower).children.right 0) ≡ false
     → hung_between lower x upper es ≡ hung Lower upper x lower upper es
 unfolding hung_between
 goes_left lower x upper es h = cond-false _ _ _ h
@@ -98,8 +98,8 @@ module _ (es : List Entry) (n : ℕ) (t : Shape) (h : Holds (at es) n t) where
       ]
 
   -- A child stands on its side.
-  left_precedes : (k : Spot) (l : Shape) (p : ℕ) (r : Shape) → t ≡ plug k (node l p r) → ((f p).left ≡ 0 → ⊥)
-      → precedes (f p).left p (0 ∷ order t) ≡ true
+  left_precedes : (k : Spot) (l : Shape) (p : ℕ) (r : Shape) → t ≡ plug k (node l p r) → ((f p).children.left ≡ 0 → ⊥)
+      → precedes (f p).children.left p (0 ∷ order t) ≡ true
   left_precedes k bare p r is there =
       absurd (there (unplug f k (node bare p r) (subst (λ (u : Shape). Shows f 0 u) is h.shown)).1.0)
   left_precedes k (node a b c) p r is there =
@@ -115,8 +115,8 @@ module _ (es : List Entry) (n : ℕ) (t : Shape) (h : Holds (at es) n t) where
       ∙ precedes_at b p front back (distinct_at_before b front back once)
       ∙ has_right p (order c) (p ∷ (order r ++ backs k)) (has_first p (order r ++ backs k))
 
-  right_precedes : (k : Spot) (l : Shape) (p : ℕ) (r : Shape) → t ≡ plug k (node l p r) → ((f p).right ≡ 0 → ⊥)
-      → precedes p (f p).right (0 ∷ order t) ≡ true
+  right_precedes : (k : Spot) (l : Shape) (p : ℕ) (r : Shape) → t ≡ plug k (node l p r) → ((f p).children.right ≡ 0 → ⊥)
+      → precedes p (f p).children.right (0 ∷ order t) ≡ true
   right_precedes k l p bare is there =
       absurd (there (unplug f k (node l p bare) (subst (λ (u : Shape). Shows f 0 u) is h.shown)).1.1)
   right_precedes k l p (node a b c) is there =
@@ -160,7 +160,7 @@ module _ (es : List Entry) (n : ℕ) (t : Shape) (h : Holds (at es) n t) (sized 
             ∙ ap (λ (u : Shape). meaning.with_after lower x (0 ∷ order u)) (sym is);
       }
 
-  on_right : (k : Spot) (l r : Shape) → t ≡ plug k (node l lower r) → (at es lower).right ≡ 0
+  on_right : (k : Spot) (l r : Shape) → t ≡ plug k (node l lower r) → (at es lower).children.right ≡ 0
       → Placed (at (hung Higher lower x lower upper es)) n lower x t
   on_right k l bare is none =
       let cut = cut_at lower upper (0 ∷ order t) beside in
@@ -179,7 +179,7 @@ module _ (es : List Entry) (n : ℕ) (t : Shape) (h : Holds (at es) n t) (sized 
       let nought = ap (holds 0) (sym is) ∙ nought_of (at es) n t h in
       absurd (nonzero (under Higher k lower l) a b c nought (sym right ∙ none))
 
-  on_left : (k : Spot) (l r : Shape) → t ≡ plug k (node l upper r) → (lower ≡ 0) ⊎ ((at es lower).right ≡ 0 → ⊥)
+  on_left : (k : Spot) (l r : Shape) → t ≡ plug k (node l upper r) → (lower ≡ 0) ⊎ ((at es lower).children.right ≡ 0 → ⊥)
       → Placed (at (hung Lower upper x lower upper es)) n lower x t
   on_left k bare r is full =
       let cut = cut_at lower upper (0 ∷ order t) beside in
@@ -214,35 +214,35 @@ module _ (es : List Entry) (n : ℕ) (t : Shape) (h : Holds (at es) n t) (sized 
       let there : has z (order t) ≡ true = ap (has z) was ∙ has_right z front (z ∷ back) (has_first z back) in
       elim full [
         | inl low ↦ absurd (nonzero_in es n t h z there (sym same ∙ low))
-        | inr none ↦ absurd (none (ap (λ i. (at es i).right) same ∙ last.ends))
+        | inr none ↦ absurd (none (ap (λ i. (at es i).children.right) same ∙ last.ends))
       ]
 
-  right_case : (lower ≡ 0 → ⊥) → (at es lower).right ≡ 0 → Placed (at (hung Higher lower x lower upper es)) n lower x t
+  right_case : (lower ≡ 0 → ⊥) → (at es lower).children.right ≡ 0 → Placed (at (hung Higher lower x lower upper es)) n lower x t
   right_case there none =
       let stands = (neighbours_stand lower upper (0 ∷ order t) beside).0 in
       let found = locate top t lower (sym (has_order lower t) ∙ not_first lower (order t) there stands) in
       on_right found.spot found.low found.high found.is none
 
-  left_case : (lower ≡ 0) ⊎ ((at es lower).right ≡ 0 → ⊥) → Placed (at (hung Lower upper x lower upper es)) n lower x t
+  left_case : (lower ≡ 0) ⊎ ((at es lower).children.right ≡ 0 → ⊥) → Placed (at (hung Lower upper x lower upper es)) n lower x t
   left_case full =
       let found = locate top t upper (sym (has_order upper t) ∙ second_stands lower upper (order t) beside) in
       on_left found.spot found.low found.high found.is full
 
   pub between_places : Placed (at (hung_between lower x upper es)) n lower x t
   between_places =
-      elim (cases_Bool (not (eqb lower 0) && eqb (at es lower).right 0)) [
+      elim (cases_Bool (not (eqb lower 0) && eqb (at es lower).children.right 0)) [
         | inl e ↦
-            let both = and_parts (not (eqb lower 0)) (eqb (at es lower).right 0) e in
+            let both = and_parts (not (eqb lower 0)) (eqb (at es lower).children.right 0) e in
             subst (λ (ds : List Entry). Placed (at ds) n lower x t) (sym (goes_right lower x upper es e))
             (right_case (eqb-false _ _ (not-true _ both.0)) (eqb-true _ _ both.1))
         | inr e ↦
             subst (λ (ds : List Entry). Placed (at ds) n lower x t) (sym (goes_left lower x upper es e))
-            (left_case (full_side lower (at es lower).right e))
+            (left_case (full_side lower (at es lower).children.right e))
       ]
 
 pub length_hung_between : (lower x upper : ℕ) (es : List Entry) → length (hung_between lower x upper es) ≡ length es
 unfolding hung_between hung
 length_hung_between lower x upper es =
-    cond_both (not (eqb lower 0) && eqb (at es lower).right 0) (hung Higher lower x lower upper es)
+    cond_both (not (eqb lower 0) && eqb (at es lower).children.right 0) (hung Higher lower x lower upper es)
     (hung Lower upper x lower upper es) (λ (ds : List Entry). length ds ≡ length es)
     (λ _. length_revised (hanging Higher lower x lower upper) es) (λ _. length_revised (hanging Lower upper x lower upper) es)

@@ -7,7 +7,8 @@ use Rattle.guides.specs.declared.answer.Side.TheVariants.{Lower, Higher}
 use Rattle.guides.specs.Meaning.{has, distinct}
 use Rattle.guides.proofs.Sequences.{has_append, distinct_front, distinct_back, distinct_apart, distinct_at_before, distinct_at_after}
 use Rattle.tables.specs.declared.entry.Entry.{Entry}
-use Rattle.tables.specs.Entries.{child, opposite}
+use Rattle.guides.specs.Sides.{opposite}
+use Rattle.tables.specs.Entries.{child}
 use Rattle.tables.specs.Shapes.{Shape, bare, node, root, order, shows}
 
 -- ---- the links show a tree
@@ -15,7 +16,7 @@ use Rattle.tables.specs.Shapes.{Shape, bare, node, root, order, shows}
 abbrev pub Shows : (ℕ → Entry) → ℕ → Shape → Type 0
 Shows f q bare = Unit {0}
 Shows f q (node l p r) =
-    ((f p).left ≡ root l) × ((f p).right ≡ root r) × ((f p).parent ≡ q) × Shows f p l × Shows f p r
+    ((f p).children.left ≡ root l) × ((f p).children.right ≡ root r) × ((f p).parent ≡ q) × Shows f p l × Shows f p r
 
 pub shows_parts : (f : ℕ → Entry) (q : ℕ) (t : Shape) → shows f q t ≡ true → Shows f q t
 shows_parts f q bare h = tt
@@ -65,7 +66,7 @@ holds_right y l p r h = or_right (eqb p y) (holds y l || holds y r) (or_right (h
 
 -- Two entries have the same children and parent.
 abbrev pub Same : Entry → Entry → Type 0
-Same e d = (d.left ≡ e.left) × (d.right ≡ e.right) × (d.parent ≡ e.parent)
+Same e d = (d.children.left ≡ e.children.left) × (d.children.right ≡ e.children.right) × (d.parent ≡ e.parent)
 
 pub frame_shows : (f h : ℕ → Entry) (q : ℕ) (t : Shape) → ((y : ℕ) → holds y t ≡ true → Same (f y) (h y)) → Shows f q t
     → Shows h q t

@@ -5,16 +5,17 @@ use Rattle.guides.specs.declared.answer.Side.TheVariants.{Lower, Higher}
 use Rattle.guides.specs.Meaning.{has, lawful}
 use Rattle.tables.specs.declared.entry.Entry.{Entry}
 use Rattle.tables.specs.Changes.{turning, turned}
-use Rattle.tables.specs.Entries.{child, opposite}
+use Rattle.guides.specs.Sides.{opposite}
+use Rattle.tables.specs.Entries.{child}
 use Rattle.tables.specs.Revisions.{at}
 use Rattle.tables.specs.Shapes.{Shape, bare, node, root, order}
 use Rattle.tables.proofs.Hanging.{differs}
-use Rattle.tables.proofs.Holding.{Holds, parts_of, once_of, nought_of, within_table, after_child, before_child}
+use Rattle.tables.proofs.Holding.{Holds, parts_of, once_of, nought_of, within_table}
 use Rattle.tables.proofs.Links.{turn_shows}
 use Rattle.tables.proofs.Orders.{fronts, backs, order_plug, above_stands, root_stands, locate}
 use Rattle.tables.proofs.Spots.{Shows, Spot, top, under, plug, above, holds, join, joined, root_join, unplug}
 use Rattle.tables.proofs.Threads.{Thread, frame_back}
-use Rattle.tables.proofs.Unlinking.{root_kept, after_exchanged, before_exchanged}
+use Rattle.tables.proofs.Unlinking.{root_kept}
 use Rattle.tables.proofs.Writes.{touched, at_revised, length_revised, touched_away, field_kept}
 
 -- The table holds a tree with the same sequence.
@@ -86,16 +87,16 @@ module _ (es : List Entry) (n : ℕ) (k : Spot) (side : Side) (u : Shape) (c : �
   after_kept y =
       ap (λ (e : Entry). e.after) (reads y)
       ∙ field_kept (λ e. e.after) writes y (f y) (
-        inr (λ e. after_child side _ e),
-        (inr (λ e. refl), (inr (λ e. after_exchanged p _ e), (inr (λ e. after_child far p e), tt))),
+        inr (λ e. refl),
+        (inr (λ e. refl), (inr (λ e. refl), (inr (λ e. refl), tt))),
       )
 
   before_kept : (y : ℕ) → (d y).before ≡ (f y).before
   before_kept y =
       ap (λ (e : Entry). e.before) (reads y)
       ∙ field_kept (λ e. e.before) writes y (f y) (
-        inr (λ e. before_child side _ e),
-        (inr (λ e. refl), (inr (λ e. before_exchanged p _ e), (inr (λ e. before_child far p e), tt))),
+        inr (λ e. refl),
+        (inr (λ e. refl), (inr (λ e. refl), (inr (λ e. refl), tt))),
       )
 
   same : order w ≡ order t

@@ -6,11 +6,11 @@ use Rattle.guides.specs.Meaning.{has}
 use Rattle.guides.proofs.Sequences.{Lawful}
 use Rattle.tables.specs.declared.entry.Entry.{Entry}
 use Rattle.tables.specs.Changes.{lifting, lifted, yielding, yielded}
-use Rattle.tables.specs.Entries.{with_exchanged, side_of, only_child}
+use Rattle.tables.specs.Entries.{only_child}
 use Rattle.tables.specs.Revisions.{at}
 use Rattle.tables.specs.Shapes.{Shape, bare, node, root, order}
 use Rattle.tables.proofs.Hanging.{differs}
-use Rattle.tables.proofs.Holding.{within_table, after_child, before_child, once_in, nought_in}
+use Rattle.tables.proofs.Holding.{within_table, once_in, nought_in}
 use Rattle.tables.proofs.Links.{lift_shows, only_child_is}
 use Rattle.tables.proofs.Orders.{fronts, backs, order_plug, root_plug, above_stands, root_stands}
 use Rattle.tables.proofs.Spots.{Shows, Spot, top, under, plug, above, join, joined, root_join, unplug}
@@ -27,12 +27,6 @@ pub record Unlinked (f g : ℕ → Entry) (p : ℕ) (t : Shape) : Type 0 where
   pub after_same : (y : ℕ) → (g y).after ≡ (f y).after
   pub before_same : (y : ℕ) → (g y).before ≡ (f y).before
   pub outside : (y : ℕ) → has y (0 ∷ order t) ≡ false → g y ≡ f y
-
-pub after_exchanged : (x c : ℕ) (e : Entry) → (with_exchanged x c e).after ≡ e.after
-after_exchanged x c e = after_child (side_of x e) c e
-
-pub before_exchanged : (x c : ℕ) (e : Entry) → (with_exchanged x c e).before ≡ e.before
-before_exchanged x c e = before_child (side_of x e) c e
 
 -- The root stays where something hangs below it.
 pub root_kept : (k : Spot) (v w : Shape) → (root (plug k v) ≡ root v → ⊥) → root (plug k w) ≡ root (plug k v)
@@ -106,11 +100,11 @@ module _ (es : List Entry) (n : ℕ) (k : Spot) (side : Side) (v : Shape) (x : �
         after_same = λ y.
             ap (λ (e : Entry). e.after) (reads y)
             ∙ field_kept (λ e. e.after) (lifting x (f x)) y (f y)
-            (inr (λ e. after_exchanged x (only_child (f x)) e), (inr (λ e. refl), tt));
+            (inr (λ e. refl), (inr (λ e. refl), tt));
         before_same = λ y.
             ap (λ (e : Entry). e.before) (reads y)
             ∙ field_kept (λ e. e.before) (lifting x (f x)) y (f y)
-            (inr (λ e. before_exchanged x (only_child (f x)) e), (inr (λ e. refl), tt));
+            (inr (λ e. refl), (inr (λ e. refl), tt));
         outside = λ y e.
             reads y
             ∙ touched_away (lifting x (f x)) y (f y) (

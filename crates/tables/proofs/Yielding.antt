@@ -16,7 +16,7 @@ use Rattle.tables.proofs.Links.{yield_shows}
 use Rattle.tables.proofs.Orders.{fronts, backs, order_plug, root_plug, above_stands, root_stands, First, first_of, cut_once, locate}
 use Rattle.tables.proofs.Spots.{Shows, Spot, top, under, plug, around, holds, has_order, holds_plug, holds_root, unplug}
 use Rattle.tables.proofs.Threads.{Thread, neighbours_cut, neighbours_know}
-use Rattle.tables.proofs.Unlinking.{Unlinked, lift_leaves, lift_unlinks, length_lifted, length_yielded, root_kept, after_exchanged, before_exchanged}
+use Rattle.tables.proofs.Unlinking.{Unlinked, lift_leaves, lift_unlinks, length_lifted, length_yielded, root_kept}
 use Rattle.tables.proofs.Writes.{Within, touched, at_revised, touched_away, field_kept}
 
 module _ (es : List Entry) (n : ℕ) (k : Spot) (l : Shape) (p : ℕ) (a : Shape) (b : ℕ) (c : Shape)
@@ -149,11 +149,11 @@ module _ (es : List Entry) (n : ℕ) (k : Spot) (l : Shape) (p : ℕ) (a : Shape
   parent_in =
       ap (λ z. has z (0 ∷ order t1)) (unplug g1 k (node l p r1) shown1).1.2 ∙ above_stands k (node l p r1)
 
-  left_in : has (g1 p).left (0 ∷ order t1) ≡ true
+  left_in : has (g1 p).children.left (0 ∷ order t1) ≡ true
   left_in =
       ap (λ z. has z (0 ∷ order t1)) (unplug g1 k (node l p r1) shown1).1.0 ∙ root_stands (under Lower k p r1) l
 
-  right_in : has (g1 p).right (0 ∷ order t1) ≡ true
+  right_in : has (g1 p).children.right (0 ∷ order t1) ≡ true
   right_in =
       ap (λ z. has z (0 ∷ order t1)) (unplug g1 k (node l p r1) shown1).1.1 ∙ root_stands (under Higher k p l) r1
 
@@ -164,8 +164,8 @@ module _ (es : List Entry) (n : ℕ) (k : Spot) (l : Shape) (p : ℕ) (a : Shape
   unfolding yielded
   reads y =
       let x0 = below_has n (g1 p).parent (0 ∷ order t1) below1 parent_in in
-      let x1 = below_has n (g1 p).left (0 ∷ order t1) below1 left_in in
-      let x2 = below_has n (g1 p).right (0 ∷ order t1) below1 right_in in
+      let x1 = below_has n (g1 p).children.left (0 ∷ order t1) below1 left_in in
+      let x2 = below_has n (g1 p).children.right (0 ∷ order t1) below1 right_in in
       let x3 = below_has n s (0 ∷ order w) law.below s_in in
       let within : Within 1024 (yielding p s (g1 p)) = (omega arith, (omega arith, (omega arith, (omega arith, tt)))) in
       at_revised (yielding p s (g1 p)) es1 1024 (length_lifted s es ∙ sized) within y
@@ -193,12 +193,12 @@ module _ (es : List Entry) (n : ℕ) (k : Spot) (l : Shape) (p : ℕ) (a : Shape
         after_same = λ y.
             ap (λ (e : Entry). e.after) (reads y)
             ∙ field_kept (λ e. e.after) (yielding p s (g1 p)) y (g1 y)
-            (inr (λ e. after_exchanged p s e), (inr (λ e. refl), (inr (λ e. refl), (inr (λ e. refl), tt))))
+            (inr (λ e. refl), (inr (λ e. refl), (inr (λ e. refl), (inr (λ e. refl), tt))))
             ∙ first.after_same y;
         before_same = λ y.
             ap (λ (e : Entry). e.before) (reads y)
             ∙ field_kept (λ e. e.before) (yielding p s (g1 p)) y (g1 y)
-            (inr (λ e. before_exchanged p s e), (inr (λ e. refl), (inr (λ e. refl), (inr (λ e. refl), tt))))
+            (inr (λ e. refl), (inr (λ e. refl), (inr (λ e. refl), (inr (λ e. refl), tt))))
             ∙ first.before_same y;
         outside = λ y e.
             let out = absent1 y e in
@@ -206,9 +206,9 @@ module _ (es : List Entry) (n : ℕ) (k : Spot) (l : Shape) (p : ℕ) (a : Shape
             ∙ touched_away (yielding p s (g1 p)) y (g1 y) (
               differs y (g1 p).parent (0 ∷ order t1) out parent_in,
               (
-                differs y (g1 p).left (0 ∷ order t1) out left_in,
+                differs y (g1 p).children.left (0 ∷ order t1) out left_in,
                 (
-                  differs y (g1 p).right (0 ∷ order t1) out right_in,
+                  differs y (g1 p).children.right (0 ∷ order t1) out right_in,
                   (differs y s (0 ∷ order w) e s_in, tt),
                 ),
               ),
@@ -219,12 +219,12 @@ module _ (es : List Entry) (n : ℕ) (k : Spot) (l : Shape) (p : ℕ) (a : Shape
 -- ---- either way
 
 -- The cases of the definition.
-lifts_alone : (p : ℕ) (es : List Entry) → ((at es p).left ≡ 0) ⊎ ((at es p).right ≡ 0) → unlinked p es ≡ lifted p es
+lifts_alone : (p : ℕ) (es : List Entry) → ((at es p).children.left ≡ 0) ⊎ ((at es p).children.right ≡ 0) → unlinked p es ≡ lifted p es
 unfolding unlinked
 lifts_alone p es (inl h) = cond-true _ _ _ (or_left _ _ (eq-eqb _ _ h))
-lifts_alone p es (inr h) = cond-true _ _ _ (or_right (eqb (at es p).left 0) _ (eq-eqb _ _ h))
+lifts_alone p es (inr h) = cond-true _ _ _ (or_right (eqb (at es p).children.left 0) _ (eq-eqb _ _ h))
 
-lifts_both : (p s : ℕ) (es : List Entry) → ((at es p).left ≡ 0 → ⊥) → ((at es p).right ≡ 0 → ⊥) → (at es p).after ≡ s
+lifts_both : (p s : ℕ) (es : List Entry) → ((at es p).children.left ≡ 0 → ⊥) → ((at es p).children.right ≡ 0 → ⊥) → (at es p).after ≡ s
     → unlinked p es ≡ yielded p s (lifted s es)
 unfolding unlinked
 lifts_both p s es h k e =
@@ -264,8 +264,8 @@ module _ (es : List Entry) (n : ℕ) (t : Shape) (h : Holds (at es) n t) (sized 
       let below : root (plug k (node l p r)) ≡ p → ⊥ = λ i. inner (sym i ∙ sym (ap root is) ∙ h.top_is) in
       let hole = (unplug (at es) k (node l p r) shown).1 in
       let nought = nought_in (plug k (node l p r)) law.once in
-      let low : (at es p).left ≡ 0 → ⊥ = λ i. nonzero (under Lower k p r) x y z nought (sym hole.0 ∙ i) in
-      let high : (at es p).right ≡ 0 → ⊥ = λ i. nonzero (under Higher k p l) a b c nought (sym hole.1 ∙ i) in
+      let low : (at es p).children.left ≡ 0 → ⊥ = λ i. nonzero (under Lower k p r) x y z nought (sym hole.0 ∙ i) in
+      let high : (at es p).children.right ≡ 0 → ⊥ = λ i. nonzero (under Higher k p l) a b c nought (sym hole.1 ∙ i) in
       subst (λ (ds : List Entry). Unlinked (at es) (at ds) p (plug k (node l p r)))
       (sym (lifts_both p _ es low high (after_is es n k l p a b c shown law thread sized room below)))
       (yield_unlinks es n k l p a b c shown law thread sized room below)
@@ -280,6 +280,6 @@ pub length_unlinked : (p : ℕ) (es : List Entry) → length (unlinked p es) ≡
 unfolding unlinked
 length_unlinked p es =
     let s = (at es p).after in
-    cond_both (eqb (at es p).left 0 || eqb (at es p).right 0) (lifted p es) (yielded p s (lifted s es))
+    cond_both (eqb (at es p).children.left 0 || eqb (at es p).children.right 0) (lifted p es) (yielded p s (lifted s es))
     (λ (ds : List Entry). length ds ≡ length es) (λ _. length_lifted p es)
     (λ _. length_yielded p s (lifted s es) ∙ length_lifted s es)

@@ -3,7 +3,8 @@ use Rattle.std.specs.Prelude.{ℕ, cond, not, ◌&&◌, ◌||◌, List, [], ◌�
 use Rattle.guides.specs.declared.answer.Side.{Side}
 use Rattle.guides.specs.declared.answer.Side.TheVariants.{Lower, Higher}
 use Rattle.tables.specs.declared.entry.Entry.{Entry}
-use Rattle.tables.specs.Entries.{blank, child, opposite, with_child, with_parent, with_before, with_after}
+use Rattle.guides.specs.Sides.{opposite}
+use Rattle.tables.specs.Entries.{blank, child, with_child, with_parent, with_before, with_after}
 use Rattle.tables.specs.Entries.{with_links, with_exchanged, fresh, only_child}
 use Rattle.tables.specs.Revisions.{at, revised}
 
@@ -25,8 +26,8 @@ lifting place e =
 abbrev pub yielding : ℕ → ℕ → Entry → List (ℕ × (Entry → Entry))
 yielding place other e =
     (e.parent, with_exchanged place other)
-    ∷ (e.left, with_parent other)
-    ∷ (e.right, with_parent other)
+    ∷ (e.children.left, with_parent other)
+    ∷ (e.children.right, with_parent other)
     ∷ (other, with_links e)
     ∷ []
 
@@ -50,7 +51,7 @@ hung side parent place lower upper es = revised (hanging side parent place lower
 -- on the left of the upper one.
 unfoldable pub hung_between : ℕ → ℕ → ℕ → List Entry → List Entry
 hung_between lower place upper es =
-    cond (not (lower == 0) && (at es lower).right == 0)
+    cond (not (lower == 0) && (at es lower).children.right == 0)
     (hung Higher lower place lower upper es)
     (hung Lower upper place lower upper es)
 
@@ -67,7 +68,7 @@ parted place es = revised (parting place (at es place)) es
 -- place's.
 unfoldable pub unlinked : ℕ → List Entry → List Entry
 unlinked place es =
-    cond ((at es place).left == 0 || (at es place).right == 0)
+    cond ((at es place).children.left == 0 || (at es place).children.right == 0)
     (lifted place es)
     (yielded place (at es place).after (lifted (at es place).after es))
 

@@ -5,4 +5,4 @@ use Rattle.tables.specs.declared.table.Table.{Table}
 
 -- The entries of the table, place by place.
 abbrev pub rows : Table → List Entry
-rows t = t.entries
+rows t = t.entries.slots

@@ -22,13 +22,13 @@ order (node l p r) = order l ++ p ∷ order r
 -- The tree that the links lead to from a place, as far as so many levels.
 unfoldable pub grown : ℕ → (ℕ → Entry) → ℕ → Shape
 grown zero f p = bare
-grown (suc n) f p = cond (p == 0) bare (node (grown n f (f p).left) p (grown n f (f p).right))
+grown (suc n) f p = cond (p == 0) bare (node (grown n f (f p).children.left) p (grown n f (f p).children.right))
 
 -- The links show the tree, hung from a parent: the children and the parents agree.
 abbrev pub shows : (ℕ → Entry) → ℕ → Shape → Bool
 shows f q bare = true
 shows f q (node l p r) =
-    ((f p).left == root l) && ((f p).right == root r && ((f p).parent == q && (shows f p l && shows f p r)))
+    ((f p).children.left == root l) && ((f p).children.right == root r && ((f p).parent == q && (shows f p l && shows f p r)))
 
 -- Each place knows its neighbours in the sequence, and none stands after the last.
 abbrev pub threaded : (ℕ → Entry) → List ℕ → Bool

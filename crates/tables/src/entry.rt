@@ -1,14 +1,14 @@
 // What the table records of a place: its children and its parent in the tree, and its neighbours in the sequence.
 ghost use Rattle.std.specs.Prelude.{◌≡◌};
-ghost use Rattle.tables.specs.Entries.{blank, child, with_child, with_exchanged, with_links, only_child, opposite};
+ghost use Rattle.tables.specs.Entries.{blank, child, with_child, with_exchanged, with_links, only_child};
 
-use guides::{LOW, Number, Side};
+use guides::{BySide, LOW, Number, Side};
 
-// Each link is the number of a place, or 0 for none.
-#[derive(Clone, Copy, PartialEq, Debug)]
+// Each link is the number of a place, or 0 for none. With an Option each change would test a link before it reads or
+// writes there; at 0 it reads and writes Low's entry, whose parent and children count for nothing.
+#[derive(Clone, Copy, PartialEq, Eq, Debug)]
 pub struct Entry {
-    pub left: Number,
-    pub right: Number,
+    pub children: BySide<Number>,
     pub parent: Number,
     pub before: Number,
     pub after: Number,
@@ -20,8 +20,10 @@ impl Entry {
         ensures { result ≡ blank }
     {
         Entry {
-            left: LOW,
-            right: LOW,
+            children: BySide {
+                left: LOW,
+                right: LOW,
+            },
             parent: LOW,
             before: LOW,
             after: LOW,
@@ -32,20 +34,17 @@ impl Entry {
     pub fn child(self, side: Side) -> Number
         ensures { result ≡ child side self }
     {
-        match side {
-            Side::Lower => self.left,
-            Side::Higher => self.right,
-        }
+        self.children.get(side)
     }
 
     // The child of a place that has at most one, 0 if it has none.
     pub fn only_child(self) -> Number
         ensures { result ≡ only_child self }
     {
-        if self.left == LOW {
-            self.right
+        if self.children.left == LOW {
+            self.children.right
         } else {
-            self.left
+            self.children.left
         }
     }
 
@@ -53,15 +52,9 @@ impl Entry {
     pub fn with_child(self, side: Side, child: Number) -> Entry
         ensures { result ≡ with_child side child self }
     {
-        match side {
-            Side::Lower => Entry {
-                left: child,
-                ..self
-            },
-            Side::Higher => Entry {
-                right: child,
-                ..self
-            },
+        Entry {
+            children: self.children.with(side, child),
+            ..self
         }
     }
 
@@ -80,20 +73,10 @@ impl Entry {
     pub fn with_exchanged(self, old: Number, new: Number) -> Entry
         ensures { result ≡ with_exchanged old new self }
     {
-        if self.left == old {
+        if self.children.left == old {
             self.with_child(Side::Lower, new)
         } else {
             self.with_child(Side::Higher, new)
         }
-    }
-}
-
-// The other side.
-pub fn opposite(side: Side) -> Side
-    ensures { result ≡ opposite side }
-{
-    match side {
-        Side::Lower => Side::Higher,
-        Side::Higher => Side::Lower,
     }
 }

@@ -3,7 +3,9 @@
 #![tactic(auto)]
 
 mod entry;
+mod slots;
 mod table;
 
-pub use entry::{Entry, opposite};
+pub use entry::Entry;
+pub use slots::{SLOTS, Slots};
 pub use table::Table;

@@ -2,12 +2,13 @@
 #![tactic(auto)]
 
 use play::Player;
-use script::{Entry, LineRefusal, MOST_BYTES, Said, first_line, heading, lines_of};
+use script::{Entry, LineRefusal, MOST_BYTES, Said, heading, lines_of};
 use std::io::Read;
 
 // All of standard input, but no more of it than shows that a script is too long.
 fn input(rt: &HostRuntime) -> anyhow::Result<Vec<u8>> {
     let mut text = Vec::new(rt.alloc());
+    // A usize has no From to a u64; try_from would add an error that never comes.
     let limit = MOST_BYTES as u64 + 1;
     let _ = rt.stdin().take(limit).read_to_end(&mut text)?;
     Ok(text)
@@ -24,22 +25,13 @@ fn write(rt: &HostRuntime, line: u32, said: Said) -> anyhow::Result<()> {
 // Plays the lines after the names. A last line without its line feed is a bad line.
 fn play(rt: &HostRuntime, script: &[u8]) -> anyhow::Result<()> {
     let mut player = Player::new();
-    let mut rest = script;
-    for line in 1..=MOST_BYTES as u32 {
-        if rest.is_empty() {
-            break;
-        }
-        let said = match first_line(rest) {
-            Some((text, after)) => {
-                rest = after;
-                player.play(rt.alloc(), text)?
-            }
-            None => {
-                rest = &[];
-                Said::Refused(LineRefusal::BadLine)
-            }
+    let lines = script.split_inclusive(|byte| *byte == b'\n');
+    for (number, line) in (1u32..).zip(lines) {
+        let said = match line.strip_suffix(b"\n") {
+            Some(text) => player.play(rt.alloc(), text)?,
+            None => Said::Refused(LineRefusal::BadLine),
         };
-        write(rt, line, said)?;
+        write(rt, number, said)?;
     }
     Ok(())
 }

@@ -2,41 +2,44 @@
 use engine::open;
 use guides::{Guide, GuideRefusal, Line};
 use orders::Ingredient;
-use play::repeated;
-use records::{Place, Refusal, Station, Status};
+use records::{Place, Refusal, Station};
+use std::alloc::{AllocError, Global};
 use std::test::Fail;
 
-fn opened(rt: &HostRuntime, places: u32, stations: u32) -> Result<Result<(), Refusal>, Fail> {
-    let place = Place {
-        key: Ingredient(0),
-        next: 0,
-        prev: 0,
-        marked: false,
-        lock: None,
-        status: Status::Free,
-    };
-    let station = Station::<Ingredient> { task: None };
-    let mut places = repeated(rt.alloc(), place, places)?;
-    let mut stations = repeated(rt.alloc(), station, stations)?;
-    let mut guide = Line::new();
-    Ok(open(places.as_mut_slice(), stations.as_mut_slice(), &mut guide))
+// What open answers for so many places and stations.
+fn opened(heap: Global, places: usize, stations: usize) -> Result<Result<(), Refusal>, AllocError> {
+    let mut places = vec![in heap; Place::blank(Ingredient(0)); places]?;
+    let mut stations = vec![in heap; Station { task: None }; stations]?;
+    Ok(open(&mut places, &mut stations, &mut Line::new()))
 }
 
 #[test]
 fn counts_out_of_bounds(rt: HostRuntime) -> Result<(), Fail> {
-    assert_eq!(rt; opened(&rt, 1, 1)?, Err(Refusal::BadCount));
-    assert_eq!(rt; opened(&rt, 1025, 1)?, Err(Refusal::BadCount));
-    assert_eq!(rt; opened(&rt, 8, 0)?, Err(Refusal::BadCount));
-    assert_eq!(rt; opened(&rt, 8, 17)?, Err(Refusal::BadCount));
+    for (places, stations) in [(1, 1), (1025, 1), (8, 0), (8, 17)] {
+        assert_eq!(rt;
+            opened(rt.alloc(), places, stations)?,
+            Err(Refusal::BadCount),
+            "{places} places, {stations} stations"
+        );
+    }
     Ok(())
 }
 
 #[test]
 fn counts_within_bounds(rt: HostRuntime) -> Result<(), Fail> {
     let small = Err(Refusal::Guide(GuideRefusal::SmallGuide));
-    assert_eq!(rt; opened(&rt, 2, 1)?, Ok(()));
-    assert_eq!(rt; opened(&rt, 64, 16)?, Ok(()));
-    assert_eq!(rt; opened(&rt, 65, 16)?, small);
-    assert_eq!(rt; opened(&rt, 1024, 16)?, small);
+    let answers = [
+        ((2, 1), Ok(())),
+        ((64, 16), Ok(())),
+        ((65, 16), small),
+        ((1024, 16), small),
+    ];
+    for ((places, stations), answer) in answers {
+        assert_eq!(rt;
+            opened(rt.alloc(), places, stations)?,
+            answer,
+            "{places} places, {stations} stations"
+        );
+    }
     Ok(())
 }

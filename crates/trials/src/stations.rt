@@ -1,111 +1,50 @@
 // Stations that work together, step by step.
-use engine::{begin, leave, open, step};
-use guides::{Guide, GuideRefusal, Line};
+use crate::book::Book;
+use guides::GuideRefusal;
 use orders::Ingredient;
-use play::run;
-use records::{Answer, Damage, Phase, Place, Refusal, Station, Status, Stepped, Task, Work};
+use records::{Answer, Damage, Phase, Refusal, Station, Stepped, Task, Work};
 use std::test::Fail;
-
-const BLANK: Place<Ingredient> = Place {
-    key: Ingredient(0),
-    next: 0,
-    prev: 0,
-    marked: false,
-    lock: None,
-    status: Status::Free,
-};
-
-const IDLE: Station<Ingredient> = Station { task: None };
-
-fn steps(
-    places: &mut [Place<Ingredient>],
-    stations: &mut [Station<Ingredient>],
-    guide: &mut Line,
-    station: usize,
-    count: u8,
-) -> Result<(), Refusal> {
-    for _ in 0..count {
-        let _ = step(places, stations, guide, station)?;
-    }
-    Ok(())
-}
 
 #[test]
 fn the_least_and_the_greatest_key(rt: HostRuntime) -> Result<(), Fail> {
-    let mut places = [BLANK; 4];
-    let mut stations = [IDLE; 1];
-    let mut guide = Line::new();
-    open(&mut places, &mut stations, &mut guide)?;
-    begin(&mut stations, 0, Work::Put, Ingredient(0))?;
-    assert_eq!(rt;
-        run(&mut places, &mut stations, &mut guide, 0)?,
-        Stepped::Ended(Answer::Yes, 13)
-    );
-    begin(&mut stations, 0, Work::Put, Ingredient(4_294_967_295))?;
-    assert_eq!(rt;
-        run(&mut places, &mut stations, &mut guide, 0)?,
-        Stepped::Ended(Answer::Yes, 14)
-    );
-    begin(&mut stations, 0, Work::Put, Ingredient(7))?;
-    assert_eq!(rt;
-        run(&mut places, &mut stations, &mut guide, 0)?,
-        Stepped::Ended(Answer::NoRoom, 9)
-    );
+    let mut book = Book::<4, 1>::open()?;
+    book.begin(0, Work::Put, 0)?;
+    assert_eq!(rt; book.run(0)?, Stepped::Ended(Answer::Yes, 13));
+    book.begin(0, Work::Put, 4_294_967_295)?;
+    assert_eq!(rt; book.run(0)?, Stepped::Ended(Answer::Yes, 14));
+    book.begin(0, Work::Put, 7)?;
+    assert_eq!(rt; book.run(0)?, Stepped::Ended(Answer::NoRoom, 9));
     Ok(())
 }
 
 #[test]
 fn a_lock_is_waited_for_and_not_left(rt: HostRuntime) -> Result<(), Fail> {
-    let mut places = [BLANK; 4];
-    let mut stations = [IDLE; 2];
-    let mut guide = Line::new();
-    open(&mut places, &mut stations, &mut guide)?;
-    begin(&mut stations, 0, Work::Put, Ingredient(20))?;
-    steps(&mut places, &mut stations, &mut guide, 0, 6)?;
-    assert_eq!(rt;
-        leave(&mut places, &mut stations, 0),
-        Err(Refusal::HoldsLock)
-    );
-    begin(&mut stations, 1, Work::Put, Ingredient(30))?;
-    steps(&mut places, &mut stations, &mut guide, 1, 5)?;
-    assert_eq!(rt;
-        step(&mut places, &mut stations, &mut guide, 1)?,
-        Stepped::Waits
-    );
-    leave(&mut places, &mut stations, 1)?;
-    assert_eq!(rt; leave(&mut places, &mut stations, 1), Err(Refusal::Idle));
+    let mut book = Book::<4, 2>::open()?;
+    book.begin(0, Work::Put, 20)?;
+    book.steps(0, 6)?;
+    assert_eq!(rt; book.leave(0), Err(Refusal::HoldsLock));
+    book.begin(1, Work::Put, 30)?;
+    book.steps(1, 5)?;
+    assert_eq!(rt; book.step(1)?, Stepped::Waits);
+    book.leave(1)?;
+    assert_eq!(rt; book.leave(1), Err(Refusal::Idle));
     Ok(())
 }
 
 #[test]
 fn a_struck_place_waits_for_a_look(rt: HostRuntime) -> Result<(), Fail> {
-    let mut places = [BLANK; 3];
-    let mut stations = [IDLE; 2];
-    let mut guide = Line::new();
-    open(&mut places, &mut stations, &mut guide)?;
-    begin(&mut stations, 0, Work::Put, Ingredient(20))?;
-    let _ = run(&mut places, &mut stations, &mut guide, 0)?;
-    begin(&mut stations, 1, Work::Look, Ingredient(20))?;
-    steps(&mut places, &mut stations, &mut guide, 1, 1)?;
-    begin(&mut stations, 0, Work::Strike, Ingredient(20))?;
-    assert_eq!(rt;
-        run(&mut places, &mut stations, &mut guide, 0)?,
-        Stepped::Ended(Answer::Yes, 14)
-    );
-    begin(&mut stations, 0, Work::Put, Ingredient(5))?;
-    assert_eq!(rt;
-        run(&mut places, &mut stations, &mut guide, 0)?,
-        Stepped::Ended(Answer::NoRoom, 8)
-    );
-    assert_eq!(rt;
-        run(&mut places, &mut stations, &mut guide, 1)?,
-        Stepped::Ended(Answer::No, 6)
-    );
-    begin(&mut stations, 0, Work::Put, Ingredient(5))?;
-    assert_eq!(rt;
-        run(&mut places, &mut stations, &mut guide, 0)?,
-        Stepped::Ended(Answer::Yes, 13)
-    );
+    let mut book = Book::<3, 2>::open()?;
+    book.begin(0, Work::Put, 20)?;
+    let _ = book.run(0)?;
+    book.begin(1, Work::Look, 20)?;
+    book.steps(1, 1)?;
+    book.begin(0, Work::Strike, 20)?;
+    assert_eq!(rt; book.run(0)?, Stepped::Ended(Answer::Yes, 14));
+    book.begin(0, Work::Put, 5)?;
+    assert_eq!(rt; book.run(0)?, Stepped::Ended(Answer::NoRoom, 8));
+    assert_eq!(rt; book.run(1)?, Stepped::Ended(Answer::No, 6));
+    book.begin(0, Work::Put, 5)?;
+    assert_eq!(rt; book.run(0)?, Stepped::Ended(Answer::Yes, 13));
     Ok(())
 }
 
@@ -127,24 +66,12 @@ fn lost(phase: Phase) -> Station<Ingredient> {
 
 #[test]
 fn damage_is_told_with_its_cause(rt: HostRuntime) -> Result<(), Fail> {
-    let mut places = [BLANK; 4];
-    let mut stations = [IDLE; 2];
-    let mut guide = Line::new();
-    open(&mut places, &mut stations, &mut guide)?;
-    stations[0] = lost(Phase::Check);
-    stations[1] = lost(Phase::Detach);
-    assert_eq!(rt;
-        step(&mut places, &mut stations, &mut guide, 0),
-        Err(Refusal::Damaged(Damage::NoPlace))
-    );
-    let refusal = Damage::Guide(GuideRefusal::NotThere);
-    assert_eq!(rt;
-        step(&mut places, &mut stations, &mut guide, 1),
-        Err(Refusal::Damaged(refusal))
-    );
-    assert_eq!(rt;
-        step(&mut places, &mut stations, &mut guide, 2),
-        Err(Refusal::NoStation)
-    );
+    let mut book = Book::<4, 2>::open()?;
+    book.stations = [lost(Phase::Check), lost(Phase::Detach)];
+    let missing = Refusal::Damaged(Damage::NoPlace);
+    assert_eq!(rt; book.step(0), Err(missing));
+    let refused = Refusal::Damaged(Damage::Guide(GuideRefusal::NotThere));
+    assert_eq!(rt; book.step(1), Err(refused));
+    assert_eq!(rt; book.step(2), Err(Refusal::NoStation));
     Ok(())
 }

@@ -10,22 +10,19 @@ ghost use Rattle.std.proofs.Common.{rules};
 use crate::balanced::Even;
 use crate::heights::{Heights, Sides};
 use guides::{Beside, Guide, GuideRefusal, LOW, Mended, Number, Side};
+use tables::SLOTS;
 use trees::Tree;
 
 impl Guide for Even {
-    const CAPACITY: usize = 1024;
+    const CAPACITY: usize = SLOTS;
 
-    ghost most = { 1024 };
+    ghost CAPACITY = { 1024 };
 
     ghost meaning = { evened };
 
     ghost mends = { Evens };
 
     ghost keeps = { Prim.search rules };
-
-    fn limit() -> usize {
-        Self::CAPACITY
-    }
 
     fn new() -> Even {
         Even {
@@ -62,9 +59,9 @@ impl Guide for Even {
         ensures entries { result ≡ Ok tt → entries_of self.new ≡ hung_between lower place upper (entries_of self.old) }
         ensures heights { result ≡ Ok tt → heights_of self.new ≡ marked_attached lower place upper (entries_of self.old) (heights_of self.old) }
     {
-        let right = self.tree.entry(lower).right;
+        let right = self.tree.entry(lower).children.right;
         self.tree.attach(lower, place, upper)?;
-        self.mark_attached(lower, place, upper, right);
+        self.heights.mark_attached(lower, place, upper, right);
         Ok(())
     }
 
@@ -76,7 +73,7 @@ impl Guide for Even {
     {
         let entry = self.tree.entry(place);
         self.tree.detach(place)?;
-        self.mark_detached(place, entry);
+        self.heights.mark_detached(place, entry);
         Ok(())
     }
 
@@ -85,18 +82,14 @@ impl Guide for Even {
         ensures meaning_stays { evened self.new ≡ evened self.old }
         ensures evens { Evens self.old result self.new }
     {
-        match self.first_flawed() {
-            Some(place) => {
-                self.correct(place);
-                Mended::Mended
-            }
-            None => match self.first_leaning() {
-                Some(place) => {
-                    self.turn_over(place);
-                    Mended::Mended
-                }
-                None => Mended::Nothing,
-            },
+        if let Some(place) = self.first_flawed() {
+            self.heights.correct(&self.tree, place);
+            Mended::Mended
+        } else if let Some(place) = self.tallest_leaning() {
+            self.turn_over(place);
+            Mended::Mended
+        } else {
+            Mended::Nothing
         }
     }
 }

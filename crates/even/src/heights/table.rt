@@ -5,6 +5,7 @@ ghost use Rattle.even.specs.Recorded.{recorded, sides_at, with_side};
 
 use crate::heights::{Heights, Sides};
 use guides::{Number, Side};
+use tables::Slots;
 
 impl Heights {
     // No place has a child.
@@ -12,7 +13,7 @@ impl Heights {
         ensures { recorded result ≡ replicate 1024 flat }
     {
         Heights {
-            sides: [Sides::flat(); 1024],
+            sides: Slots::new(Sides::flat()),
         }
     }
 
@@ -20,19 +21,14 @@ impl Heights {
     pub fn of(&self, place: Number) -> Sides
         ensures { result ≡ sides_at (recorded self.now) place }
     {
-        match self.sides.get(usize::from(place)) {
-            Some(sides) => *sides,
-            None => Sides::flat(),
-        }
+        self.sides.read(place, Sides::flat())
     }
 
     // Writes the heights of a place; beyond the table nothing is written.
     pub fn put(&mut self, place: Number, sides: Sides)
         ensures { recorded self.new ≡ slice_set (recorded self.old) place sides }
     {
-        if self.sides.get(usize::from(place)).is_some() {
-            self.sides[usize::from(place)] = sides;
-        }
+        self.sides.write(place, sides);
     }
 
     // Writes the height of a place on a side.

@@ -1,5 +1,5 @@
-// The straight guide: the sequence itself, in an array. It leads nowhere between Low and High, so a search that it
-// guides walks the whole sequence from Low.
+// The straight guide: the sequence itself. It leads nowhere between Low and High, so a search that it guides walks the
+// whole sequence from Low.
 ghost use Rattle.std.specs.Prelude.{◌≡◌, ◌≤◌, true, is_some, IfSome, if◌then◌else◌};
 ghost use Rattle.guides.specs.Meaning.{has, neighbours};
 ghost use Rattle.guides.specs.Rules.{NothingMended, cleared, AnswersBeside};
@@ -10,7 +10,7 @@ use crate::answer::{Beside, GuideRefusal, Mended, Number, Side};
 use crate::ends::{HIGH, LOW};
 use crate::guide::Guide;
 use crate::line::Line;
-use crate::line::edits::{put_in, take_out};
+use arrayvec::ArrayVec;
 
 impl Line {
     // A guide that was cleared for so many places.
@@ -18,13 +18,10 @@ impl Line {
         requires { (2 ≤ places) × (places ≤ 64) }
         ensures { straight result ≡ cleared places }
     {
-        let mut order = [LOW; 64];
-        order[1] = HIGH;
-        Line {
-            order,
-            count: 2,
-            places,
-        }
+        let mut order = ArrayVec::new();
+        order.push(LOW);
+        order.push(HIGH);
+        Line { order, places }
     }
 
     // The position at which a place stands.
@@ -32,12 +29,7 @@ impl Line {
         ensures tells { is_some result ≡ has place (straight self.now).sequence }
         ensures holds { IfSome result (Holds self.now place) }
     {
-        for at in 0..self.count {
-            if self.order[at] == place {
-                return Some(at);
-            }
-        }
-        None
+        self.order.iter().position(|stood| *stood == place)
     }
 
     // The position of the lower of two neighbours.
@@ -46,33 +38,26 @@ impl Line {
         ensures holds { IfSome result (Holds self.now lower) }
     {
         let at = self.position(lower)?;
-        if at + 1 < self.count && self.order[at + 1] == upper {
-            Some(at)
-        } else {
-            None
-        }
+        (self.order.get(at + 1) == Some(&upper)).then_some(at)
     }
 }
 
 impl Guide for Line {
     const CAPACITY: usize = 64;
 
-    ghost most = { 64 };
+    ghost CAPACITY = { 64 };
 
     ghost meaning = { straight };
 
     ghost mends = { NothingMended };
 
-    ghost keeps = { first_of (Prim.search rules, Prim.grind (arith, Self.row.coded.inj)) };
-
-    fn limit() -> usize {
-        Self::CAPACITY
-    }
+    ghost keeps = { λ line. line.kept };
 
     fn new() -> Line {
         Line::with_places(2)
     }
 
+    // The plain tree's steps are the same; one function for both would need a closure with a clause, and be longer.
     fn clear(&mut self, places: usize) -> Result<(), GuideRefusal> {
         if places < 2 || Self::CAPACITY < places {
             return Err(GuideRefusal::SmallGuide);
@@ -94,9 +79,10 @@ impl Guide for Line {
         ensures keeps_the_rule { AnswersBeside (straight self.now).sequence place side result }
         ensures leads_nowhere { result ≡ (if has place (straight self.now).sequence then Beside.End else Beside.Absent) }
     {
-        match self.position(place) {
-            Some(_) => Beside::End,
-            None => Beside::Absent,
+        if self.position(place).is_some() {
+            Beside::End
+        } else {
+            Beside::Absent
         }
     }
 
@@ -104,28 +90,22 @@ impl Guide for Line {
         if self.places <= usize::from(place) || self.position(place).is_some() {
             return Err(GuideRefusal::BadSpot);
         }
-        match self.gap(lower, upper) {
-            Some(at) => {
-                put_in(&mut self.order, self.count, at + 1, place);
-                self.count += 1;
-                Ok(())
-            }
-            None => Err(GuideRefusal::BadSpot),
-        }
+        let Some(at) = self.gap(lower, upper) else {
+            return Err(GuideRefusal::BadSpot);
+        };
+        self.order.insert(at + 1, place);
+        Ok(())
     }
 
     fn detach(&mut self, place: Number) -> Result<(), GuideRefusal> {
         if place <= HIGH {
             return Err(GuideRefusal::NotThere);
         }
-        match self.position(place) {
-            Some(at) => {
-                take_out(&mut self.order, self.count, at);
-                self.count -= 1;
-                Ok(())
-            }
-            None => Err(GuideRefusal::NotThere),
-        }
+        let Some(at) = self.position(place) else {
+            return Err(GuideRefusal::NotThere);
+        };
+        self.order.remove(at);
+        Ok(())
     }
 
     // There is nothing to mend.

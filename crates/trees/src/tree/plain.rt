@@ -8,7 +8,7 @@ ghost use Rattle.std.proofs.Common.{rules, arith};
 
 use crate::tree::Tree;
 use guides::{Beside, Guide, GuideRefusal, HIGH, LOW, Mended, Number, Side};
-use tables::Table;
+use tables::{SLOTS, Table};
 
 impl Tree {
     // A tree that was cleared for so many places.
@@ -24,24 +24,21 @@ impl Tree {
 }
 
 impl Guide for Tree {
-    const CAPACITY: usize = 1024;
+    const CAPACITY: usize = SLOTS;
 
-    ghost most = { 1024 };
+    ghost CAPACITY = { 1024 };
 
     ghost meaning = { plain };
 
     ghost mends = { NothingMended };
 
-    ghost keeps = { first_of (Prim.search rules, Prim.grind (arith, Self.row.coded.inj)) };
-
-    fn limit() -> usize {
-        Self::CAPACITY
-    }
+    ghost keeps = { λ tree. tree.lawful };
 
     fn new() -> Tree {
         Tree::with_places(2)
     }
 
+    // The straight guide's steps are the same; one function for both would need a closure with a clause, and be longer.
     fn clear(&mut self, places: usize) -> Result<(), GuideRefusal> {
         if places < 2 || Self::CAPACITY < places {
             return Err(GuideRefusal::SmallGuide);
@@ -51,6 +48,7 @@ impl Guide for Tree {
     }
 
     // High, the root.
+    #[tactic(auto, using(crate::proofs::Answering::tree_enters))]
     fn start(&self) -> Number
         ensures stands { has result (plain self.now).sequence ≡ true }
         ensures is_high { result ≡ high }
@@ -80,10 +78,10 @@ impl Guide for Tree {
         ensures does { Does plain (attaching lower place upper (plain self.old)) self.old result self.new }
         ensures entries { result ≡ Ok tt → entries_of self.new ≡ hung_between lower place upper (entries_of self.old) }
     {
-        if self.places <= usize::from(place) || self.stands(place) {
-            return Err(GuideRefusal::BadSpot);
-        }
-        if !self.are_neighbours(lower, upper) {
+        if self.places <= usize::from(place)
+            || self.stands(place)
+            || !self.are_neighbours(lower, upper)
+        {
             return Err(GuideRefusal::BadSpot);
         }
         self.table.hang_between(lower, place, upper);

@@ -17,6 +17,7 @@ impl Tree {
     }
 
     // Whether a place stands in the sequence: all but Low and High have a parent.
+    #[tactic(auto, using(crate::proofs::Keeping::stands_is))]
     pub fn stands(&self, place: Number) -> bool
         ensures { result ≡ has place (plain self.now).sequence }
     {
@@ -25,6 +26,7 @@ impl Tree {
     }
 
     // Whether two places are neighbours in the sequence, in that order.
+    #[tactic(auto, using(crate::proofs::Keeping::neighbours_is))]
     pub fn are_neighbours(&self, lower: Number, upper: Number) -> bool
         ensures { result ≡ neighbours lower upper (plain self.now).sequence }
     {

@@ -7,7 +7,8 @@ use crate::tree::Tree;
 use guides::{HIGH, LOW, Number, Side};
 
 impl Tree {
-    // Turns a place other than High that has a child on the side: the child takes its spot. Tells whether it has one.
+    // Turns a place other than High that has a child on the side: the child takes its spot. Tells whether it turned.
+    // The answer is a bool: no value comes with it, and none of its callers asks why a place did not turn.
     pub fn turn(&mut self, side: Side, place: Number) -> bool
         ensures keeps { plain self.new ≡ plain self.old }
         ensures tells { result ≡ can_turn side place (entries_of self.old) }

@@ -2,7 +2,6 @@
 use Rattle.std.proofs.Common.{set, sym, ap, ◌∙◌}
 use Rattle.std.proofs.lemmas.List.Edits.{map_over_more}
 use Rattle.engine.specs.Calling.{vacated}
-use Rattle.engine.proofs.Mapped.{map_over_all}
 use Rattle.engine.proofs.call.vacate_all.Goals as goal
 
 pub loop-place-preserved : goal.loop-place-preserved
@@ -10,6 +9,3 @@ loop-place-preserved g c =
     let i = c.loop-place.place-index in
     ap (set c.loop-place.places i) (c.vacate.ensures ∙ ap vacated (sym c.place-item.is))
     ∙ map_over_more vacated c.args.places.now c.loop-place.places i c.place-item.result c.loop-place-test.true c.loop-place.invariant c.place-item.is
-
-pub returns : goal.returns
-returns g c = map_over_all vacated c.args.places.now c.loop-place.places c.loop-place.place-index c.loop-place-test.false c.loop-place.invariant

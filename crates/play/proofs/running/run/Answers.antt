@@ -1,7 +1,6 @@
 -- A run, step by step.
-use Rattle.std.proofs.Common.{◌≡◌, ℕ, Ok, Err, sym, ap, ◌∙◌, subst, arith}
+use Rattle.std.proofs.Common.{◌≡◌, ℕ, Ok, Err, sym, ap, ◌∙◌, subst, arith, rules}
 use Rattle.std.proofs.lemmas.Result.{err_from_is_err_and}
-use Rattle.records.specs.declared.answer.Stepped.TheVariants.{Waits, Ended}
 use Rattle.engine.specs.Calling.{Steps}
 use Rattle.play.specs.Running.{most_steps, Moves, Runs, none, more, stops, tires}
 use Rattle.play.proofs.running.run.Goals as goal
@@ -14,7 +13,7 @@ loop-taken-preserved g c =
     let l = c.loop-taken in
     more c.step.new.places c.step.new.stations c.step.new.guide l.invariant
     (subst (λ x. Steps g.G.Guide.meaning g.K.Order.rank c.args.station l.places l.stations l.guide (Ok x) c.step.new.places c.step.new.stations c.step.new.guide)
-    c.in-Moved.is c.in_ok-step.ensures)
+    c.in-Moved.is c.in_ok-stopped.ensures)
 
 pub returns : goal.returns
 returns g c =
@@ -22,27 +21,16 @@ returns g c =
     let all : l.taken ≡ most_steps = omega arith in
     tires (subst (λ n. Moves g.G.Guide.meaning g.K.Order.rank c.args.station c.args.places.now c.args.stations.now c.args.guide.now n l.places l.stations l.guide) all l.invariant)
 
-pub returns-in-Waits : goal.returns-in-Waits
-returns-in-Waits g c =
+pub returns-in_default : goal.returns-in_default
+returns-in_default g c =
     let l = c.loop-taken in
-    stops (Ok Waits) c.step.new.places c.step.new.stations c.step.new.guide (omega arith) l.invariant
-    (subst (λ x. Steps g.G.Guide.meaning g.K.Order.rank c.args.station l.places l.stations l.guide (Ok x) c.step.new.places c.step.new.stations c.step.new.guide)
-    c.in-Waits.is c.in_ok-step.ensures)
-    (λ e. let no : ◌≡◌ {A = ℕ} 0 1 = cc e in omega arith)
+    stops (Ok c.in_ok-stopped.stopped) c.step.new.places c.step.new.stations c.step.new.guide (omega arith) l.invariant c.in_ok-stopped.ensures (λ e. c.in_default.not-Moved (search rules))
 
-pub returns-in-Ended : goal.returns-in-Ended
-returns-in-Ended g c =
-    let l = c.loop-taken in
-    stops (Ok (Ended c.in-Ended.answer c.in-Ended.steps)) c.step.new.places c.step.new.stations c.step.new.guide (omega arith) l.invariant
-    (subst (λ x. Steps g.G.Guide.meaning g.K.Order.rank c.args.station l.places l.stations l.guide (Ok x) c.step.new.places c.step.new.stations c.step.new.guide)
-    c.in-Ended.is c.in_ok-step.ensures)
-    (λ e. let no : ◌≡◌ {A = ℕ} 0 1 = cc e in omega arith)
-
-pub returns-in_err-step : goal.returns-in_err-step
-returns-in_err-step g c =
+pub returns-in_err-stopped : goal.returns-in_err-stopped
+returns-in_err-stopped g c =
     let l = c.loop-taken in
     let p = err_from_is_err_and c.from_residual.result c.from_residual.ensures.1 in
     subst (λ r. Runs g.G.Guide.meaning g.K.Order.rank c.args.station c.args.places.now c.args.stations.now c.args.guide.now r c.step.new.places c.step.new.stations c.step.new.guide)
     (sym (p.1 ∙ ap Err p.2))
-    (stops _ c.step.new.places c.step.new.stations c.step.new.guide (omega arith) l.invariant c.in_err-step.ensures
+    (stops _ c.step.new.places c.step.new.stations c.step.new.guide (omega arith) l.invariant c.in_err-stopped.ensures
     (λ e. let no : ◌≡◌ {A = ℕ} 0 1 = cc e in omega arith))

@@ -13,7 +13,7 @@ laws g = record { swaps = g.met.K.Order.swaps; chains = g.met.K.Order.chains; sa
 pub returns : goal.returns
 returns g c = record {
   opens = c.«open».ensures;
-  runs = calls_make_runs g.K.Order.rank g.G.Guide.meaning g.G.Guide.most;
+  runs = calls_make_runs g.K.Order.rank g.G.Guide.meaning g.G.Guide.CAPACITY;
   promises = promises_kept g.K.Order.rank (laws g);
   statuses = statuses_told g.K.Order.rank (laws g);
   alone = alone_is_a_set g.K.Order.rank (laws g);

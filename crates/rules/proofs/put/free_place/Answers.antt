@@ -1,13 +1,25 @@
--- A turn of the loop: the place at i is not free either.
-use Rattle.std.proofs.Common.{◌≡◌, ℕ, ◌≤◌, false, sym, ap, ◌∙◌, arith, below_more}
-use Rattle.std.proofs.lemmas.List.{get_or_default}
-use Rattle.records.specs.Records.{place, blank}
+-- What the search found, by what it was told of each number.
+use Rattle.std.proofs.Common.{◌≡◌, ℕ, ◌&&◌, ltb, length, true, false, rules, arith}
+use Rattle.std.proofs.lemmas.Iterator.{first_from_Range}
+use Rattle.std.proofs.lemmas.Bool.Decides.{nat_tests}
+use Rattle.records.specs.Records.{place}
 use Rattle.rules.specs.Putting.{is_free}
 use Rattle.rules.proofs.put.free_place.Goals as goal
 
-pub loop-i-preserved : goal.loop-i-preserved
-loop-i-preserved g c = λ k p two lt.
+pub returns-in_err-free-clause-takes : goal.returns-in_err-free-clause-takes
+returns-in_err-free-clause-takes g c = λ k.
     let ps = c.args.places.now in
-    let i = c.loop-i.i in
-    below_more (λ (q : ℕ). 2 ≤ q → is_free (place k ps q).status ≡ false) i (λ q below from. c.loop-i.invariant k q from below)
-    (λ from. ap (λ x. is_free x.status) (get_or_default ps i (blank k) c.index-places-i.result (omega arith)) ∙ sym c.if-is_free.ensures) p lt two
+    let free = λ (i : ℕ). ltb i (length ps) && is_free (place k ps i).status in
+    let none = first_from_Range _ _ _ c.find.result (λ i. free i ≡ true) (λ i. free i ≡ false) c.find.ensures.ran
+    (λ x q called. search rules)
+    (λ x q called. (search rules, search rules)) in
+    grind (arith, nat_tests)
+
+pub returns-clause-takes : goal.returns-clause-takes
+returns-clause-takes g c = λ k.
+    let ps = c.args.places.now in
+    let free = λ (i : ℕ). ltb i (length ps) && is_free (place k ps i).status in
+    let some = first_from_Range _ _ _ c.find.result (λ i. free i ≡ true) (λ i. free i ≡ false) c.find.ensures.ran
+    (λ x q called. let said = called.called.met.0 in grind (arith, said))
+    (λ x q called. (search rules, search rules)) in
+    grind (arith, nat_tests)

@@ -5,7 +5,6 @@ use Rattle.std.proofs.lemmas.Result.{err_from_is_err_and}
 use Rattle.guides.specs.declared.answer.GuideRefusal.{GuideRefusal}
 use Rattle.guides.specs.Rules.{Does, attaching}
 use Rattle.tables.specs.declared.entry.Entry.{Entry}
-use Rattle.trees.specs.Plain as tree
 use Rattle.even.specs.Evened.{evened, heights_of}
 use Rattle.even.specs.Marks.{marked_attached}
 use Rattle.even.specs.Recorded.{with_side}
@@ -39,13 +38,13 @@ returns c =
     let own = c.in_ok-attach.ensures in
     let marks = c.mark_attached.ensures in
     record {
-      does = carries_ok (attaching lower place upper (evened e)) e.tree c.attach.new.self e _ marks.0 own.does;
-      entries = λ _. ap tree.entries_of marks.0 ∙ own.entries refl;
+      does = carries_ok (attaching lower place upper (evened e)) e.tree c.attach.new.self e _ refl own.does;
+      entries = λ _. own.entries refl;
       heights = λ _.
-          marks.1
+          marks
           ∙ ap
           (λ (x : Entry).
-          cond (not (eqb lower 0) && eqb x.right 0)
+          cond (not (eqb lower 0) && eqb x.children.right 0)
           (with_side lower Higher 1 (set (heights_of e) place flat))
           (with_side upper Lower 1 (set (heights_of e) place flat)))
           c.entry-right.ensures;

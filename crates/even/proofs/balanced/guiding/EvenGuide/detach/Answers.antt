@@ -4,7 +4,6 @@ use Rattle.std.proofs.lemmas.Result.{err_from_is_err_and}
 use Rattle.guides.specs.declared.answer.GuideRefusal.{GuideRefusal}
 use Rattle.guides.specs.Rules.{Does, detaching}
 use Rattle.tables.specs.declared.entry.Entry.{Entry}
-use Rattle.trees.specs.Plain as tree
 use Rattle.even.specs.Evened.{evened, heights_of}
 use Rattle.even.specs.Marks.{marked_detached}
 use Rattle.even.specs.Recorded.{sides_at}
@@ -35,12 +34,12 @@ returns c =
     let own = c.in_ok-detach.ensures in
     let marks = c.mark_detached.ensures in
     record {
-      does = carries_ok (detaching place (evened e)) e.tree c.detach.new.self e _ marks.0 own.does;
-      entries = λ _. ap tree.entries_of marks.0 ∙ own.entries refl;
+      does = carries_ok (detaching place (evened e)) e.tree c.detach.new.self e _ refl own.does;
+      entries = λ _. own.entries refl;
       heights = λ _.
-          marks.1
+          marks
           ∙ ap
           (λ (x : Entry).
-          cond (eqb x.left 0 || eqb x.right 0) (heights_of e) (set (heights_of e) x.after (sides_at (heights_of e) place)))
+          cond (eqb x.children.left 0 || eqb x.children.right 0) (heights_of e) (set (heights_of e) x.after (sides_at (heights_of e) place)))
           c.entry-entry.ensures;
     }
