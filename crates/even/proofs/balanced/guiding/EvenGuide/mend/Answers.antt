@@ -1,16 +1,8 @@
 -- Every place was asked twice: if none has a wrong side and none leans, nothing is to be mended.
-use Rattle.std.proofs.Common.{refl, inl, inr}
+use Rattle.std.proofs.Common.{refl, inr}
 use Rattle.std.proofs.lemmas.Bool.{both_ways}
 use Rattle.even.proofs.Carrying.{none_flawed, none_leans}
 use Rattle.even.proofs.balanced.guiding.EvenGuide.mend.Goals as goal
-
-pub returns-in-Some : goal.returns-in-Some
-returns-in-Some c =
-    let found = c.in-Some.ensures in
-    record {
-      meaning_stays = refl;
-      evens = (refl, λ settled. both_ways _ (settled.0 c.in-Some.place) found, inl (c.in-Some.place, found, refl, c.correct.ensures));
-    }
 
 pub returns-in-Some-tallest_leaning : goal.returns-in-Some-tallest_leaning
 returns-in-Some-tallest_leaning c =
