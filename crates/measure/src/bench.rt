@@ -17,7 +17,8 @@ pub struct Bench<G, const PLACES: usize> {
     guide: G,
 }
 
-// The key of a number, in an order that is neither rising nor falling. Keys are even, so that others lie between.
+// The key of a number, in an order that is neither rising nor falling. Keys are even, so that others lie between. With
+// no keys at all it is 0, and no Option: C may ask for rounds with no keys, and the works then go on with that key.
 fn key_of(number: u32, keys: u32) -> u32 {
     let place = number.wrapping_mul(387).checked_rem(keys);
     place.map_or(0, |place| place.wrapping_mul(2).wrapping_add(2))

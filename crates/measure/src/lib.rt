@@ -20,7 +20,7 @@ fn work_of(number: u8) -> Work {
     }
 }
 
-// The own steps of all rounds together in this book, or 0 if it was not opened.
+// The own steps of all rounds together in this book, or 0 if it was not opened: C is given a number and no Option.
 fn measured<G: Guide + Drop, const PLACES: usize>(
     opened: Result<Bench<G, PLACES>, Refusal>,
     work: Work,

@@ -26,7 +26,8 @@ pub struct Book<K, G> {
 }
 
 impl<K: Kind, G: Guide + Drop> Book<K, G> {
-    // The records of a book that is to be opened.
+    // The records of a book that is to be opened. Memory and the two counts have no more to do with one another, so
+    // they stay three parameters.
     pub fn new(heap: Global, stations: usize, places: usize) -> Result<Book<K, G>, AllocError> {
         Ok(Book {
             places: vec![in heap; Place::blank(K::key(0)); places]?,

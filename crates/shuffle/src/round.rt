@@ -75,14 +75,12 @@ impl<K: Kind, G: Guide> Round<K, G> {
     // Plays the round and says what was done.
     pub fn play(&mut self) -> Result<Done, Stop> {
         let played = self.play_all();
-        let calls = self.calls;
-        match played {
-            Ok(()) => Ok(Done {
-                calls,
-                steps: self.book.steps(),
-            }),
-            Err(wrong) => Err(Stop { call: calls, wrong }),
-        }
+        let call = self.calls;
+        played.map_err(|wrong| Stop { call, wrong })?;
+        Ok(Done {
+            calls: call,
+            steps: self.book.steps(),
+        })
     }
 
     // Opens the book, and then some hundreds of calls and steps until every work has ended.
@@ -120,7 +118,8 @@ impl<K: Kind, G: Guide> Round<K, G> {
         self.last
     }
 
-    // A station that works makes a step most often, one that does not begins a work.
+    // A station that works makes a step most often, one that does not begins a work. The numbers are no kinds of call
+    // but shares of 160, by which the calls are drawn.
     fn call(&mut self, station: usize) -> Result<(), Wrong> {
         let works = self.book.works(station);
         match self.dice.roll(160) {
@@ -152,7 +151,7 @@ impl<K: Kind, G: Guide> Round<K, G> {
         self.book.list(positions)
     }
 
-    // A call for a station that there is not.
+    // A call for a station that there is not, drawn in equal shares.
     fn call_beyond(&mut self) -> Result<(), Wrong> {
         let beyond = if self.dice.hits(2) {
             0

@@ -6,7 +6,8 @@ use records::{Place, Refusal, Station};
 use std::alloc::{AllocError, Global};
 use std::test::Fail;
 
-// What open answers for so many places and stations.
+// What open answers for so many places and stations. A Result in a Result: a trial asserts the inner one, and fails with
+// the outer one.
 fn opened(heap: Global, places: usize, stations: usize) -> Result<Result<(), Refusal>, AllocError> {
     let mut places = vec![in heap; Place::blank(Ingredient(0)); places]?;
     let mut stations = vec![in heap; Station { task: None }; stations]?;

@@ -28,7 +28,8 @@ impl<K: Kind, G: Guide> Book<K, G> {
         holders.any(|holder| usize::from(holder) == station)
     }
 
-    // Puts or strikes are under way, and all of them are held up.
+    // Puts or strikes are under way, and all of them are held up. A loop, since what is found out of a work may fail,
+    // and `any` and `all` know no `?`.
     pub(super) fn is_stuck(&self) -> Result<bool, Wrong> {
         let mut stuck = false;
         for (i, Station { task }) in self.stations.iter().enumerate() {
