@@ -93,7 +93,7 @@ fn guide_of(word: Word<'_>) -> Option<GuideName>
     ensures { result ≡ guide_of_rule (token word.entry) }
 {
     match word {
-        Word::Name(b"line") => Some(GuideName::Line),
+        word if word.is_name(b"line") => Some(GuideName::Line),
         _ => None,
     }
 }
@@ -103,11 +103,11 @@ fn work_of(word: Word<'_>) -> Option<Work>
     ensures { result ≡ work_of_rule (token word.entry) }
 {
     match word {
-        Word::Name(b"put") => Some(Work::Put),
-        Word::Name(b"strike") => Some(Work::Strike),
-        Word::Name(b"look") => Some(Work::Look),
-        Word::Name(b"first") => Some(Work::First),
-        Word::Name(b"after") => Some(Work::After),
+        word if word.is_name(b"put") => Some(Work::Put),
+        word if word.is_name(b"strike") => Some(Work::Strike),
+        word if word.is_name(b"look") => Some(Work::Look),
+        word if word.is_name(b"first") => Some(Work::First),
+        word if word.is_name(b"after") => Some(Work::After),
         _ => None,
     }
 }
@@ -162,12 +162,12 @@ fn call_of(line: Fields<'_>) -> Option<Command>
     ensures { result ≡ call_of_rule (tokens line.entry) }
 {
     match line.call {
-        Word::Name(b"open") => opening(line),
-        Word::Name(b"begin") => beginning(line),
-        Word::Name(b"run") => Some(Command::Run {
+        word if word.is_name(b"open") => opening(line),
+        word if word.is_name(b"begin") => beginning(line),
+        word if word.is_name(b"run") => Some(Command::Run {
             station: only_station(line)?,
         }),
-        Word::Name(b"leave") => Some(Command::Leave {
+        word if word.is_name(b"leave") => Some(Command::Leave {
             station: only_station(line)?,
         }),
         _ => None,

@@ -2,7 +2,7 @@
 #![tactic(auto)]
 
 use play::Player;
-use script::{Entry, LineRefusal, MOST_BYTES, Said, heading, lines_of};
+use script::{Entry, LineRefusal, MOST_BYTES, Said, first_line, heading, lines_of};
 use std::io::Read;
 
 // All of standard input, but no more of it than shows that a script is too long.
@@ -25,9 +25,19 @@ fn write(rt: &HostRuntime, line: u32, said: Said) -> anyhow::Result<()> {
 // Plays the lines after the names. A last line without its line feed is a bad line.
 fn play(rt: &HostRuntime, script: &[u8]) -> anyhow::Result<()> {
     let mut player = Player::new();
-    let lines = script.split_inclusive(|byte| *byte == b'\n');
-    for (number, line) in (1u32..).zip(lines) {
-        let said = match line.strip_suffix(b"\n") {
+    let mut rest = script;
+    // Each line as `first_line` cuts it off, whose contract says where a line ends; none for an end without a line feed.
+    let lines = std::iter::from_fn(|| {
+        if rest.is_empty() {
+            return None;
+        }
+        let cut = first_line(rest);
+        rest = cut.map_or(&[], |(_, after)| after);
+        Some(cut.map(|(text, _)| text))
+    });
+    // No script has more lines than bytes. A usize has no From to a u32 either.
+    for (number, line) in (1..=MOST_BYTES as u32).zip(lines) {
+        let said = match line {
             Some(text) => player.play(rt.alloc(), text)?,
             None => Said::Refused(LineRefusal::BadLine),
         };
