@@ -33,6 +33,14 @@ told (Ok said) = Some said
 told (Err (RefusedSo refusal)) = Some (Refused refusal)
 told (Err (OutOfMemory lack)) = None
 
+-- Only an open makes records, so only an open may lack memory.
+abbrev pub MayLack : Option Command → Type 0
+MayLack None = ⊥
+MayLack (Some (Open stations guide places)) = Unit {0}
+MayLack (Some (Begin station work key)) = ⊥
+MayLack (Some (Run station)) = ⊥
+MayLack (Some (Leave station)) = ⊥
+
 -- What is said of a call by its answer.
 abbrev pub said_begun : Result (Unit {0}) Refusal → Said
 said_begun (Ok done) = Begun

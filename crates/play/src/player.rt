@@ -1,8 +1,9 @@
 // Plays the lines of a script, one by one.
 ghost use Rattle.std.specs.Prelude.{◌≡◌, MatchOption, MatchResult};
 ghost use Rattle.guides.specs.Straight.{straight};
+ghost use Rattle.script.specs.Commands.{command_of};
 ghost use Rattle.play.specs.Booked.{BeginsIn, RunsIn, LeavesIn};
-ghost use Rattle.play.specs.Playing.{closed, said_begun, said_ran, said_left, told, OpensOver, Calls, Plays};
+ghost use Rattle.play.specs.Playing.{closed, said_begun, said_ran, said_left, told, MayLack, OpensOver, Calls, Plays};
 
 use crate::book::{Book, open_book};
 use crate::error::PlayError;
@@ -11,10 +12,11 @@ use records::Work;
 use script::{Command, GuideName, LineRefusal, Said, read};
 use std::alloc::{AllocError, Global};
 
-// The book that a script works on, over the guide that it was opened with; none before the first accepted open.
+// The book that a script works on, over the guide that it was opened with; none before the first accepted open. A caller
+// may put in a book that it opened by itself, see whether one is open, and call it.
 #[derive(Drop)]
 pub struct Player {
-    book: Option<Book<Line>>,
+    pub book: Option<Book<Line>>,
 }
 
 impl Player {
@@ -38,7 +40,7 @@ impl Player {
 
     // Does what a line says.
     fn obey(&mut self, heap: Global, line: &[u8]) -> Result<Said, PlayError>
-        ensures { MatchOption (told result) (self.new ≡ self.old) (λ said. Plays line.now self.old said self.new) }
+        ensures { MatchOption (told result) (MayLack (command_of line.now) × (self.new ≡ self.old)) (λ said. Plays line.now self.old said self.new) }
     {
         match read(line).ok_or(LineRefusal::BadLine)? {
             Command::Open {
@@ -68,7 +70,7 @@ impl Player {
     }
 
     fn begin(&mut self, station: u32, work: Work, key: u32) -> Result<Said, PlayError>
-        ensures { MatchOption (told result) (self.new ≡ self.old) (λ said. Calls (BeginsIn station work key) said_begun self.old said self.new) }
+        ensures { MatchOption (told result) ⊥ (λ said. Calls (BeginsIn station work key) said_begun self.old said self.new) }
     {
         let book = self.book.as_mut().ok_or(LineRefusal::BadLine)?;
         book.begin(station, work, key)?;
@@ -76,14 +78,14 @@ impl Player {
     }
 
     fn run(&mut self, station: u32) -> Result<Said, PlayError>
-        ensures { MatchOption (told result) (self.new ≡ self.old) (λ said. Calls (RunsIn straight station) said_ran self.old said self.new) }
+        ensures { MatchOption (told result) ⊥ (λ said. Calls (RunsIn straight station) said_ran self.old said self.new) }
     {
         let book = self.book.as_mut().ok_or(LineRefusal::BadLine)?;
         Ok(Said::Ran(book.run(station)?))
     }
 
     fn leave(&mut self, station: u32) -> Result<Said, PlayError>
-        ensures { MatchOption (told result) (self.new ≡ self.old) (λ said. Calls (LeavesIn station) said_left self.old said self.new) }
+        ensures { MatchOption (told result) ⊥ (λ said. Calls (LeavesIn station) said_left self.old said self.new) }
     {
         let book = self.book.as_mut().ok_or(LineRefusal::BadLine)?;
         book.leave(station)?;
