@@ -1,4 +1,5 @@
 mod Called
+mod Counted
 mod Filled
 mod Listed
 mod Made

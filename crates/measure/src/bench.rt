@@ -25,15 +25,18 @@ fn key_of(number: u32, keys: u32) -> u32 {
 }
 
 impl<G: Guide + Drop, const PLACES: usize> Bench<G, PLACES> {
-    // A new book over a new guide.
-    pub fn open() -> Result<Bench<G, PLACES>, Refusal> {
-        let mut bench = Bench {
+    // A book over a new guide, to be opened where it lies: a Result that holds a book would be moved as a whole.
+    pub fn new() -> Bench<G, PLACES> {
+        Bench {
             places: [Place::blank(Ingredient(0)); PLACES],
             stations: [Station { task: None }],
             guide: G::new(),
-        };
-        open(&mut bench.places, &mut bench.stations, &mut bench.guide)?;
-        Ok(bench)
+        }
+    }
+
+    // Opens the book.
+    pub fn open(&mut self) -> Result<(), Refusal> {
+        open(&mut self.places, &mut self.stations, &mut self.guide)
     }
 
     // Fills the book and has a work done so many times: the own steps of all.

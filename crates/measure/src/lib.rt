@@ -6,7 +6,7 @@ mod bench;
 use bench::Bench;
 use even::Even;
 use guides::{Guide, Line};
-use records::{Refusal, Work};
+use records::Work;
 use trees::Tree;
 
 // The work of a number: C names a work, and a guide below, by a number, since its interface has no enum of ours.
@@ -22,12 +22,14 @@ fn work_of(number: u8) -> Work {
 
 // The own steps of all rounds together in this book, or 0 if it was not opened: C is given a number and no Option.
 fn measured<G: Guide + Drop, const PLACES: usize>(
-    opened: Result<Bench<G, PLACES>, Refusal>,
+    bench: &mut Bench<G, PLACES>,
     work: Work,
     keys: u32,
     rounds: u32,
 ) -> u64 {
-    opened.map_or(0, |mut bench| bench.measure(work, keys, rounds))
+    bench
+        .open()
+        .map_or(0, |()| bench.measure(work, keys, rounds))
 }
 
 // The own steps of all rounds together, or 0 if the book was not opened: guide 0 is the straight guide with 64 places,
@@ -37,8 +39,8 @@ fn measured<G: Guide + Drop, const PLACES: usize>(
 pub extern "C" fn torglimuz_measure(guide: u8, work: u8, keys: u32, rounds: u32) -> u64 {
     let work = work_of(work);
     match guide {
-        0 => measured(Bench::<Line, 64>::open(), work, keys, rounds),
-        1 => measured(Bench::<Tree, 1024>::open(), work, keys, rounds),
-        _ => measured(Bench::<Even, 1024>::open(), work, keys, rounds),
+        0 => measured(&mut Bench::<Line, 64>::new(), work, keys, rounds),
+        1 => measured(&mut Bench::<Tree, 1024>::new(), work, keys, rounds),
+        _ => measured(&mut Bench::<Even, 1024>::new(), work, keys, rounds),
     }
 }
