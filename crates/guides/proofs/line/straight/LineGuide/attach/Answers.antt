@@ -59,7 +59,7 @@ invariant_of-self c =
     let law =
     attached_is_lawful c.args.lower c.args.place c.args.upper (straight line) line.kept
     (fresh here) (inside here) (beside here) in
-    record { bounded = omega arith; kept = ap lawful (made c) ∙ law }
+    record { bounded = omega arith; kept = ap lawful (made (goal.at.invariant_of-self c).After-insert) ∙ law }
 
 pub returns : goal.returns
 returns c =
